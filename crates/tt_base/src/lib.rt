@@ -1,0 +1,24 @@
+//! The plain values that every layer of Soonstable speaks of: lists, bytes, texts, paths, URIs,
+//! positions in a text and contents of a file.
+//!
+//! Contracts see each of these types as a list, or as the record of its public fields.
+#![tactic(auto)]
+
+mod bytes;
+mod contents;
+mod edits;
+mod lists;
+mod paths;
+mod texts;
+mod uris;
+
+pub use bytes::Blob;
+pub use contents::{Content, View};
+pub use edits::{Position, TextEdit, TextRange};
+pub use lists::List;
+pub use paths::{PathFault, SharedPath};
+pub use texts::Text;
+pub use uris::Uri;
+
+#[cfg(test)]
+mod tests;
