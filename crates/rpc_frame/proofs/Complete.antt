@@ -11,12 +11,12 @@ use Rattle.rpc_frame.specs.declared.headers.Place.{Place}
 use Rattle.rpc_frame.specs.declared.headers.Place.TheVariants.{FirstLine, NextLine, LengthName, OtherName, OtherValue, LengthBefore, LengthDigits, LengthAfter, PartEnd, Whole}
 use Rattle.rpc_frame.specs.declared.headers.Lengths.{Lengths}
 use Rattle.rpc_frame.specs.declared.headers.Lengths.TheVariants.{NoneYet}
-use Rattle.rpc_frame.proofs.Tests.{blank_is_no_digit, value_byte_is_no_return, digit_is_value_byte, blank_is_value_byte}
+use Rattle.rpc_frame.proofs.ByteTests.{blank_is_no_digit, value_byte_is_no_return, digit_is_value_byte, blank_is_value_byte}
 use Rattle.rpc_frame.specs.Header.{IsHeader}
 use Rattle.rpc_frame.specs.Scanning.{start}
 use Rattle.std.proofs.Common.{append_assoc, get_or, ◌⊎◌}
 use Rattle.std.proofs.lemmas.List.Elements.{filter-append, All-head, All-tail}
-use Rattle.rpc_frame.proofs.Tests.{name_byte_is_no_colon, name_byte_is_no_return, value_byte_is_no_feed, digit_is_no_blank}
+use Rattle.rpc_frame.proofs.ByteTests.{name_byte_is_no_colon, name_byte_is_no_return, value_byte_is_no_feed, digit_is_no_blank}
 use Rattle.rpc_frame.proofs.Rest.{number_of, number_of-digits, filter-blanks, with_digits, numbers_with, with_all, is_name_rest}
 use Rattle.rpc_frame.proofs.Names.{lengths-cons, LengthName-more, OtherName-more, name_goes_on, name_differs, name_is_cut, name_is_whole}
 

@@ -1,4 +1,4 @@
-pub mod Tests
+pub mod ByteTests
 pub mod Rest
 pub mod Names
 pub mod Sound

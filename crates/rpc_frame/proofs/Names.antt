@@ -7,12 +7,12 @@ use Rattle.std.proofs.lemmas.Bool.Decides.{nat_tests}
 use Rattle.rpc_frame.specs.Header.{Field, IsField, IsLengthText, is_name_byte, is_value_byte, is_blank, gives_length, field_bytes, lengths}
 use Rattle.rpc_frame.specs.Scanning.{length_name, name_place, place_after}
 use Rattle.rpc_frame.specs.declared.headers.Place.TheVariants.{FirstLine, NextLine, LengthName, OtherName, OtherValue, LengthBefore, PartEnd, Bad}
-use Rattle.rpc_frame.proofs.Tests.{digit_is_value_byte, blank_is_value_byte}
+use Rattle.rpc_frame.proofs.ByteTests.{digit_is_value_byte, blank_is_value_byte}
 use Rattle.std.proofs.Common.{eq-eqb, add-one, get_or, drop-cons, append_assoc}
 use Rattle.std.proofs.lemmas.List.{drop_all}
 use Rattle.std.proofs.lemmas.List.Folds.{list_all-append}
 use Rattle.std.proofs.lemmas.List.Elements.{All-nil, All-cons}
-use Rattle.rpc_frame.proofs.Tests.{name_byte_is_no_colon}
+use Rattle.rpc_frame.proofs.ByteTests.{name_byte_is_no_colon}
 use Rattle.rpc_frame.proofs.Rest.{IsLines, IsLineRest, numbers_with, OtherText, LengthText, NameText, is_name_rest, is_no_length, Rest, prepend}
 
 -- what is left of the name at a place in it

@@ -13,7 +13,7 @@ use Rattle.rpc_frame.specs.Scanning.{length_name, with_digit, place_after, with_
 use Rattle.rpc_frame.specs.declared.headers.Place.{Place}
 use Rattle.rpc_frame.specs.declared.headers.Place.TheVariants.{FirstLine, NextLine, LengthName, OtherName, OtherValue, LengthBefore, LengthDigits, LengthAfter, FieldEnd, PartEnd, Whole, Bad}
 use Rattle.rpc_frame.specs.declared.headers.Lengths.{Lengths}
-use Rattle.rpc_frame.proofs.Tests.{blank_is_no_digit, value_byte-is, value_byte_is_no_return, digit_is_value_byte, blank_is_value_byte}
+use Rattle.rpc_frame.proofs.ByteTests.{blank_is_no_digit, value_byte-is, value_byte_is_no_return, digit_is_value_byte, blank_is_value_byte}
 
 -- lines and then the empty line
 pub record IsLines (bytes numbers : List ℕ) : Type 0 where

@@ -17,3 +17,6 @@ pub use faults::{FrameEnd, FrameFault};
 pub use pieces::{StreamRead, read_pieces};
 pub use readers::FrameReader;
 pub use written::write_frame;
+
+#[cfg(test)]
+mod tests;
