@@ -1,10 +1,10 @@
 -- Deltas that are alike: side by side with others, and their normal form.
-use Rattle.std.proofs.Common.{◌≡◌, ℕ, ◌+◌, Bool, List, [], ◌∷◌, ◌++◌, length, map, refl, sym, ap, ◌∙◌, subst, arith}
+use Rattle.std.proofs.Common.{◌≡◌, ℕ, ◌+◌, List, ◌++◌, map, sym, ap, ◌∙◌, arith}
 use Rattle.std.proofs.lemmas.List.{append-nil}
-use Rattle.delta.specs.Cells.{Cells, base_length, result_length, inserts, inserting, deleting, covers, joined, nothing, normal}
+use Rattle.delta.specs.Cells.{Cells, base_length, result_length, inserts, inserting, deleting, joined, nothing, normal}
 use Rattle.delta.specs.Marks.{New, marks_from}
 use Rattle.delta.specs.Alike.{IsAlike}
-use Rattle.delta.proofs.CellsLemmas.{base_length-joined, base_length-inserts, base_length-covers, result_length-joined, result_length-inserts, result_length-deleted}
+use Rattle.delta.proofs.CellsLemmas.{base_length-joined, base_length-inserts, result_length-joined, result_length-inserts, result_length-deleted}
 use Rattle.delta.proofs.MarksLemmas.{marks_from-joined, marks_from-inserts, marks_from-deleted}
 use Rattle.delta.proofs.NormalLemmas.{same_normal}
 

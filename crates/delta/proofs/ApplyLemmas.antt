@@ -1,7 +1,7 @@
 -- What a delta makes of a text, step by step.
-use Rattle.std.proofs.Common.{◌≡◌, ℕ, zero, suc, ◌+◌, ◌≤◌, ◌<◌, Bool, true, false, List, [], ◌∷◌, ◌++◌, length, get_or, take, drop, refl, sym, ap, ◌∙◌, arith, append_assoc}
+use Rattle.std.proofs.Common.{◌≡◌, ℕ, zero, suc, ◌+◌, ◌≤◌, ◌<◌, true, false, List, [], ◌∷◌, ◌++◌, length, get_or, take, drop, refl, sym, ap, ◌∙◌, arith, append_assoc}
 use Rattle.std.proofs.lemmas.List.{drop_more}
-use Rattle.delta.specs.Cells.{Cell, Cells, with_cell, keeps, applied, base_length, inserts, covers}
+use Rattle.delta.specs.Cells.{Cell, Cells, applied, base_length, inserts, covers}
 use Rattle.delta.specs.Steps.{after_step, cells_of, step_base, said_by}
 use Rattle.delta.specs.declared.steps.DeltaStep.{DeltaStep}
 use Rattle.delta.specs.declared.steps.DeltaStep.TheVariants.{Keep, Insert, Delete}

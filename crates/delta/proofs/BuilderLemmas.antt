@@ -1,5 +1,5 @@
 -- A step at the end of a list of steps.
-use Rattle.std.proofs.Common.{◌≡◌, ℕ, ◌+◌, List, [], ◌∷◌, ◌++◌, refl, sym, ap, ◌∙◌, arith}
+use Rattle.std.proofs.Common.{◌≡◌, ℕ, ◌+◌, List, [], ◌∷◌, ◌++◌, refl, ap, ◌∙◌, arith}
 use Rattle.std.proofs.lemmas.List.{append-nil}
 use Rattle.delta.specs.Cells.{Cells, base_length, inserting, deleting, keeping, joined, nothing}
 use Rattle.delta.specs.Steps.{after_step, step_base, cells_of}

@@ -1,7 +1,7 @@
 -- Deltas side by side: their lengths, and that the order in which they are joined is free.
 use Rattle.std.proofs.Common.{◌≡◌, ℕ, zero, suc, ◌+◌, Bool, true, false, List, [], ◌∷◌, ◌++◌, length, refl, sym, ap, ◌∙◌, arith, append_assoc, length-append, zero-add}
 use Rattle.std.proofs.lemmas.List.{append-nil}
-use Rattle.delta.specs.Cells.{Cell, Cells, ends, with_cell, one_if, base_length, result_length, front, inserts, covers, joined, nothing}
+use Rattle.delta.specs.Cells.{Cell, Cells, ends, with_cell, base_length, result_length, inserts, covers, joined, nothing}
 
 pub inserts_none : (d : Cells) → inserts [] d ≡ d
 inserts_none d = by_cells d.cells d.last where

@@ -2,9 +2,8 @@
 use Rattle.std.proofs.Common.{◌≡◌, ℕ, zero, suc, ◌+◌, ◌<◌, ◌≤◌, Bool, true, false, List, [], ◌∷◌, ◌++◌, length, map, get_or, inl, inr, ◌==◌, refl, sym, ap, ◌∙◌, subst, arith, zero-add}
 use Rattle.std.proofs.lemmas.List.{append-nil, map-append, map-id}
 use Rattle.std.proofs.lemmas.Bool.{eqb-true, eqb-false, cases_Bool}
-use Rattle.delta.specs.Cells.{Cell, Cells, ends, with_cell, keeps, base_length, result_length, applied, normal, IsNormal}
+use Rattle.delta.specs.Cells.{Cell, Cells, keeps, base_length, applied, IsNormal}
 use Rattle.delta.specs.Marks.{Mark, New, Place, places, applied_marks, marks_from, marks_of, run, is_next, behind, behind_place, delta_from, composed}
-use Rattle.delta.proofs.MarksLemmas.{length-places}
 use Rattle.delta.proofs.NormalLemmas.{IsNormal-delta_from}
 
 -- the places among the marks rise, from i on and below e

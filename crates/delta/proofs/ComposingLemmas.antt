@@ -1,10 +1,10 @@
 -- Composition, a part of a step at a time.
-use Rattle.std.proofs.Common.{◌≡◌, ℕ, zero, suc, ◌+◌, ◌≤◌, ◌<◌, Bool, true, false, List, [], ◌∷◌, ◌++◌, length, map, min, take, drop, refl, sym, ap, ◌∙◌, subst, arith, append_assoc, length-append, zero-add}
+use Rattle.std.proofs.Common.{◌≡◌, ℕ, ◌+◌, ◌≤◌, ◌<◌, Bool, true, false, List, [], ◌∷◌, ◌++◌, length, map, take, refl, sym, ap, ◌∙◌, subst, arith, append_assoc}
 use Rattle.std.proofs.lemmas.List.{append-nil, length-take-le, nil_from_length, length-map}
-use Rattle.delta.specs.Cells.{Cells, base_length, result_length, covers, inserts, joined, nothing, keeping, inserting, deleting, normal}
-use Rattle.delta.specs.Marks.{Mark, New, Place, places, applied_marks, marks_of, marks_from, delta_from, composed}
+use Rattle.delta.specs.Cells.{Cells, base_length, result_length, covers, inserts, joined, nothing, inserting, deleting, normal}
+use Rattle.delta.specs.Marks.{Mark, New, places, applied_marks, marks_of, marks_from, delta_from, composed}
 use Rattle.delta.specs.Steps.{after_step, cells_of, step_base, MayLead, IsCanonical}
-use Rattle.delta.specs.Reading.{step_size, first_size, front_part, text_ahead, next_of}
+use Rattle.delta.specs.Reading.{first_size, front_part, text_ahead, next_of}
 use Rattle.delta.specs.Composing.{composing, run_step, inserted_if, Composes}
 use Rattle.delta.specs.declared.steps.DeltaStep.{DeltaStep}
 use Rattle.delta.specs.declared.steps.DeltaStep.TheVariants.{Keep, Insert, Delete}

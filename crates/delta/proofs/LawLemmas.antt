@@ -1,9 +1,9 @@
 -- The laws of deltas that need more than a lemma of one definition.
-use Rattle.std.proofs.Common.{◌≡◌, ℕ, zero, suc, ◌+◌, Bool, true, false, List, [], ◌∷◌, ◌++◌, length, map, get_or, refl, sym, ap, ◌∙◌, arith, append_assoc, length-append}
-use Rattle.std.proofs.lemmas.List.{append-nil, length-map, nil_from_length}
+use Rattle.std.proofs.Common.{◌≡◌, ℕ, Bool, true, false, List, [], ◌∷◌, ◌++◌, length, map, get_or, refl, sym, ap, ◌∙◌, arith, append_assoc, length-append}
+use Rattle.std.proofs.lemmas.List.{length-map, nil_from_length}
 use Rattle.std.proofs.lemmas.Bool.{and_parts, eqb-true}
-use Rattle.delta.specs.Cells.{Cell, Cells, ends, with_cell, keeps, one_if, base_length, result_length, applied, front, with_front, inserts, settled, normal, changes_nothing, is_nothing, IsNormal}
-use Rattle.delta.specs.Marks.{Mark, New, Place, marks_of, marks_from, applied_marks, char_of, delta_from, composed}
+use Rattle.delta.specs.Cells.{Cell, Cells, keeps, base_length, result_length, applied, front, with_front, settled, normal, changes_nothing, is_nothing, IsNormal}
+use Rattle.delta.specs.Marks.{Mark, New, Place, marks_of, applied_marks, char_of, delta_from, composed}
 use Rattle.delta.proofs.MarksLemmas.{length-marks_from, length-keeps}
 use Rattle.delta.proofs.NormalLemmas.{inserts-front, normal_is_fixed, same_normal}
 use Rattle.delta.proofs.ComposedLemmas.{item_at, text_by_marks, marks_of-composed, applied_marks-composed, base_length-composed}

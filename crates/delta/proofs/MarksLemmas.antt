@@ -1,7 +1,7 @@
 -- The marks that deltas leave, piece by piece.
-use Rattle.std.proofs.Common.{◌≡◌, ℕ, zero, suc, ◌+◌, Bool, true, false, List, [], ◌∷◌, ◌++◌, length, map, refl, sym, ap, ◌∙◌, subst, arith, append_assoc, length-append}
-use Rattle.std.proofs.lemmas.List.{append-nil, map-append, length-map}
-use Rattle.delta.specs.Cells.{Cell, Cells, ends, with_cell, keeps, one_if, base_length, result_length, inserts, covers, joined}
+use Rattle.std.proofs.Common.{◌≡◌, ℕ, zero, suc, ◌+◌, Bool, true, false, List, [], ◌∷◌, ◌++◌, length, map, refl, sym, ap, ◌∙◌, arith, append_assoc, length-append}
+use Rattle.std.proofs.lemmas.List.{map-append, length-map}
+use Rattle.delta.specs.Cells.{Cell, Cells, keeps, one_if, base_length, result_length, inserts, covers, joined}
 use Rattle.delta.specs.Marks.{Mark, New, Place, places, applied_marks, marks_from}
 
 pub keeps-append : {A : Type 0} (k : Bool) (x : A) (a b : List A) → keeps k x (a ++ b) ≡ keeps k x a ++ b

@@ -1,8 +1,8 @@
 -- A step is its front part, and then what is left of it.
-use Rattle.std.proofs.Common.{◌≡◌, ℕ, ◌+◌, ◌-◌, ◌≤◌, true, false, List, [], ◌∷◌, ◌++◌, length, take, drop, Some, None, sym, ap, subst, ◌∙◌, arith}
+use Rattle.std.proofs.Common.{◌≡◌, ℕ, ◌+◌, ◌-◌, ◌≤◌, true, false, List, [], ◌∷◌, take, drop, Some, sym, ap, subst, ◌∙◌, arith}
 use Rattle.std.proofs.lemmas.List.{take-append-drop, drop-drop, length-drop}
 use Rattle.std.specs.List.{slice_get}
-use Rattle.delta.specs.Cells.{Cells, base_length, covers, inserts}
+use Rattle.delta.specs.Cells.{covers, inserts}
 use Rattle.delta.specs.Steps.{after_step, cells_of, IsCanonical}
 use Rattle.delta.specs.Reading.{step_size, rest_of_step, steps_left, front_part, first_size}
 use Rattle.delta.specs.declared.steps.DeltaStep.{DeltaStep}

@@ -1,7 +1,7 @@
 -- Worked rows, which compute.
-use Rattle.std.proofs.Common.{◌≡◌, List, [], ◌∷◌, refl}
+use Rattle.std.proofs.Common.{◌≡◌, [], ◌∷◌, refl}
 use Rattle.std.specs.Prelude.{codes}
-use Rattle.delta.specs.Cells.{Cells, joined, keeping, inserting, deleting, inserts, normal, applied}
+use Rattle.delta.specs.Cells.{joined, keeping, inserting, deleting, inserts, normal, applied}
 use Rattle.delta.specs.Marks.{composed}
 use Rattle.delta.specs.Steps.{cells_of}
 use Rattle.delta.specs.declared.steps.DeltaStep.TheVariants.{Keep, Insert, Delete}

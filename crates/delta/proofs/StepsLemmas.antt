@@ -1,10 +1,10 @@
 -- Lists of steps: side by side, in canonical form, and that a delta has one of them.
-use Rattle.std.proofs.Common.{◌≡◌, ℕ, zero, suc, ◌+◌, ◌<◌, Bool, true, false, List, [], ◌∷◌, ◌++◌, length, ◌==◌, refl, sym, ap, ◌∙◌, subst, arith}
+use Rattle.std.proofs.Common.{◌≡◌, ℕ, zero, suc, Bool, true, false, List, [], ◌∷◌, ◌++◌, length, ◌==◌, refl, sym, ap, ◌∙◌, arith}
 use Rattle.std.proofs.lemmas.List.{append-nil}
 use Rattle.std.proofs.lemmas.Bool.{ne_eqb, and_left}
 use Rattle.std.specs.List.{list_all}
-use Rattle.delta.specs.Cells.{Cell, Cells, ends, with_cell, base_length, front, inserts, covers, joined, nothing, no_text_behind, IsNormal, changes_nothing}
-use Rattle.delta.specs.Steps.{after_step, cells_of, HasContent, MayFollow, MayLead, IsCanonical, is_keep}
+use Rattle.delta.specs.Cells.{Cell, Cells, front, inserts, covers, joined, IsNormal, changes_nothing}
+use Rattle.delta.specs.Steps.{after_step, cells_of, MayFollow, MayLead, IsCanonical, is_keep}
 use Rattle.delta.specs.declared.steps.DeltaStep.{DeltaStep}
 use Rattle.delta.specs.declared.steps.DeltaStep.TheVariants.{Keep, Insert, Delete}
 use Rattle.delta.proofs.CellsLemmas.{inserts_none, joined-inserts, joined-covers}

@@ -1,8 +1,8 @@
 -- Groups of steps: what they tell, and that they are canonical.
-use Rattle.std.proofs.Common.{◌≡◌, ℕ, zero, suc, true, false, ◌+◌, ◌^◌, ◌≤◌, ◌<◌, ◌⊎◌, inl, inr, List, [], ◌∷◌, ◌++◌, length, get_or, take, drop, refl, sym, ap, ap₂, ◌∙◌, subst, arith, append_assoc}
-use Rattle.std.proofs.lemmas.List.{append-nil, take_more, take-append-drop}
+use Rattle.std.proofs.Common.{◌≡◌, ℕ, zero, suc, true, false, ◌+◌, ◌^◌, ◌≤◌, ◌<◌, ◌⊎◌, inl, inr, List, [], ◌∷◌, ◌++◌, length, get_or, take, drop, refl, sym, ap, ◌∙◌, subst, arith, append_assoc}
+use Rattle.std.proofs.lemmas.List.{take_more, take-append-drop}
 use Rattle.delta.specs.Cells.{Cells, base_length, result_length, inserts, inserting, deleting, keeping, covers, joined, nothing}
-use Rattle.delta.specs.Steps.{after_step, step_base, step_result, cells_of, IsCanonical, HasContent, MayFollow, MayLead, keep_step, insert_step, delete_step, group, IsWriting, IsWritten}
+use Rattle.delta.specs.Steps.{after_step, step_base, step_result, cells_of, IsCanonical, MayLead, keep_step, insert_step, delete_step, group, IsWriting, IsWritten}
 use Rattle.delta.specs.Alike.{IsAlike}
 use Rattle.delta.specs.declared.steps.DeltaStep.{DeltaStep}
 use Rattle.delta.specs.declared.steps.DeltaStep.TheVariants.{Keep, Insert, Delete}

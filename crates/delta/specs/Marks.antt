@@ -1,5 +1,5 @@
 -- What is left of the places of the base, and composition by it.
-use Rattle.std.specs.Prelude.{◌≡◌, ℕ, zero, suc, Bool, true, false, ◌==◌, List, [], ◌∷◌, ◌++◌, length, map, slice_index}
+use Rattle.std.specs.Prelude.{ℕ, zero, suc, Bool, true, false, ◌==◌, List, [], ◌∷◌, ◌++◌, map, slice_index}
 use Rattle.delta.specs.Cells.{Cell, Cells, ends, with_cell, keeps, base_length}
 
 -- an item of a list of places that deltas were applied to: a new character, or a place of the base

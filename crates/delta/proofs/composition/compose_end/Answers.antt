@@ -1,7 +1,6 @@
 use Rattle.std.proofs.Common.{◌≡◌, sym, ap, ◌∙◌, arith}
 use Rattle.std.proofs.lemmas.Result.{on_ok_weaker}
 use Rattle.delta.specs.Cells.{joined, deleting}
-use Rattle.delta.specs.Steps.{cells_of}
 use Rattle.delta.proofs.ComposingLemmas.{size_ahead-delete, end_of, end_deleted}
 use Rattle.delta.proofs.composition.compose_end.Goals as goal
 

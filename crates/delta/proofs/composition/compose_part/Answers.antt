@@ -1,5 +1,4 @@
-use Rattle.std.proofs.Common.{sym, ap, ◌∙◌, arith}
-use Rattle.delta.specs.Composing.{inserted_if}
+use Rattle.std.proofs.Common.{sym, arith}
 use Rattle.delta.proofs.ComposingLemmas.{keep_ahead, size_ahead-delete, part_kept, part_inserted, part_deleted}
 use Rattle.delta.proofs.composition.compose_part.Goals as goal
 

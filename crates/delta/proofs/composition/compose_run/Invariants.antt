@@ -1,4 +1,4 @@
-use Rattle.std.proofs.Common.{◌≡◌, ◌-◌, ◌≤◌}
+use Rattle.std.proofs.Common.{◌-◌, ◌≤◌}
 use Rattle.delta.specs.Steps.{cells_of}
 use Rattle.delta.specs.Reading.{size_of}
 use Rattle.delta.specs.Composing.{Composes, run_step}

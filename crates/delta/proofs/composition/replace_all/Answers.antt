@@ -1,4 +1,4 @@
-use Rattle.std.proofs.Common.{refl, sym, ap, ◌∙◌}
+use Rattle.std.proofs.Common.{refl, ap, ◌∙◌}
 use Rattle.delta.specs.Cells.{joined, inserting, deleting, inserts, nothing, normal}
 use Rattle.delta.proofs.StepsLemmas.{IsNormal-inserted, IsNormal-deleted}
 use Rattle.delta.proofs.NormalLemmas.{normal_is_fixed}

@@ -1,8 +1,7 @@
-use Rattle.std.proofs.Common.{◌≡◌, List, take, length, sym, ap, ◌∙◌, arith}
+use Rattle.std.proofs.Common.{take, sym, ap, ◌∙◌, arith}
 use Rattle.std.proofs.lemmas.List.{take_all}
-use Rattle.delta.specs.Cells.{Cells, base_length, joined, nothing, normal}
+use Rattle.delta.specs.Cells.{base_length, nothing, normal}
 use Rattle.delta.specs.Steps.{after_step, cells_of}
-use Rattle.delta.specs.Alike.{IsAlike}
 use Rattle.delta.proofs.StepsLemmas.{IsNormal-cells_of}
 use Rattle.delta.proofs.NormalLemmas.{normal_is_fixed}
 use Rattle.delta.proofs.AlikeLemmas.{IsAlike-same, IsAlike-trans, IsAlike-joined_left, normal-alike}

@@ -1,4 +1,3 @@
-use Rattle.std.proofs.Common.{sym}
 use Rattle.delta.specs.declared.steps.DeltaStep.TheVariants.{Delete}
 use Rattle.delta.proofs.BuilderLemmas.{push_delete, push_base}
 use Rattle.delta.proofs.builders.DeltaBuilder.delete.Goals as goal

@@ -1,4 +1,3 @@
-use Rattle.std.proofs.Common.{sym}
 use Rattle.delta.specs.declared.steps.DeltaStep.TheVariants.{Keep}
 use Rattle.delta.proofs.BuilderLemmas.{push_keep, push_base}
 use Rattle.delta.proofs.builders.DeltaBuilder.keep.Goals as goal

@@ -1,4 +1,3 @@
-use Rattle.std.proofs.Common.{rules}
 use Rattle.delta.proofs.StepsLemmas.{IsNormal-cells_of}
 use Rattle.delta.proofs.deltas.Delta.base_length.Goals as goal
 

@@ -1,4 +1,4 @@
-use Rattle.std.proofs.Common.{◌++◌, ◌+◌, length, ap, ◌∙◌, arith}
+use Rattle.std.proofs.Common.{◌++◌, ◌+◌, ap, ◌∙◌}
 use Rattle.delta.proofs.WriterLemmas.{IsAlike-inserts, IsWriting-inserts}
 use Rattle.delta.proofs.writers.Writer.insert.Goals as goal
 
