@@ -1,0 +1,12 @@
+pub mod ByteTests
+pub mod Rest
+pub mod Names
+pub mod Sound
+pub mod Complete
+pub mod Viable
+pub mod HeldLemmas
+pub mod Readings
+pub mod Slices
+pub mod OneReading
+pub mod ReaderLemmas
+pub mod WrittenLemmas

@@ -1,0 +1,9 @@
+pub mod Header
+pub mod Stream
+pub mod Faults
+pub mod Scanning
+pub mod Held
+pub mod ReaderView
+pub mod Reader
+pub mod Written
+pub mod Pieces
