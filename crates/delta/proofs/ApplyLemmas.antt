@@ -1,0 +1,49 @@
+-- What a delta makes of a text, step by step.
+use Rattle.std.proofs.Common.{◌≡◌, ℕ, zero, suc, ◌+◌, ◌≤◌, ◌<◌, true, false, List, [], ◌∷◌, ◌++◌, length, get_or, take, drop, refl, sym, ap, ◌∙◌, arith, append_assoc}
+use Rattle.std.proofs.lemmas.List.{drop_more}
+use Rattle.delta.specs.Cells.{Cell, Cells, applied, base_length, inserts, covers}
+use Rattle.delta.specs.Steps.{after_step, cells_of, step_base, said_by}
+use Rattle.delta.specs.declared.steps.DeltaStep.{DeltaStep}
+use Rattle.delta.specs.declared.steps.DeltaStep.TheVariants.{Keep, Insert, Delete}
+use Rattle.delta.proofs.WriterLemmas.{base_length-after_step}
+
+pub applied-inserts : (t : List ℕ) (d : Cells) (text : List ℕ) → applied (inserts t d) text ≡ t ++ applied d text
+applied-inserts t d text = by_cells d.cells d.last text where
+  by_cells : (cs : List Cell) (last text : List ℕ) → applied (inserts t (record { cells = cs; last = last })) text ≡ t ++ applied (record { cells = cs; last = last }) text
+  by_cells [] last text = refl
+  by_cells (c ∷ cs) last [] = append_assoc t c.inserted _
+  by_cells (c ∷ cs) last (x ∷ text) = append_assoc t c.inserted _
+
+pub applied-kept : (n : ℕ) (d : Cells) (text : List ℕ) → n ≤ length text → applied (covers true n d) text ≡ take n text ++ applied d (drop n text)
+applied-kept zero d text h = refl
+applied-kept (suc n) d [] h = absurd (omega (arith, h))
+applied-kept (suc n) d (x ∷ text) h = ap (λ l. x ∷ l) (applied-kept n d text (omega (arith, h)))
+
+pub applied-deleted : (n : ℕ) (d : Cells) (text : List ℕ) → n ≤ length text → applied (covers false n d) text ≡ applied d (drop n text)
+applied-deleted zero d text h = refl
+applied-deleted (suc n) d [] h = absurd (omega (arith, h))
+applied-deleted (suc n) d (x ∷ text) h = applied-deleted n d text (omega (arith, h))
+
+applied-after_step : (s : DeltaStep) (d : Cells) (text : List ℕ) → step_base s ≤ length text → applied (after_step s d) text ≡ said_by s text ++ applied d (drop (step_base s) text)
+applied-after_step (Keep n) d text h = applied-kept n d text h
+applied-after_step (Insert t) d text h = applied-inserts t d text
+applied-after_step (Delete n) d text h = applied-deleted n d text h
+
+pub cells_of-drop : (ss : List DeltaStep) (i : ℕ) (s : DeltaStep) → i < length ss → s ≡ get_or ss i s → cells_of (drop i ss) ≡ after_step s (cells_of (drop (i + 1) ss))
+cells_of-drop ss i s lt is =
+    ap cells_of (drop_more ss i s lt) ∙ ap (λ r. after_step r (cells_of (drop (i + 1) ss))) (sym is)
+
+-- the next step of a list, on what is left of a text
+pub base_length-step : (ss : List DeltaStep) (i : ℕ) (s : DeltaStep) → i < length ss → s ≡ get_or ss i s → base_length (cells_of (drop i ss)) ≡ step_base s + base_length (cells_of (drop (i + 1) ss))
+base_length-step ss i s lt is =
+    ap base_length (cells_of-drop ss i s lt is) ∙ base_length-after_step s (cells_of (drop (i + 1) ss))
+
+pub applied-step : (ss : List DeltaStep) (i : ℕ) (s : DeltaStep) (was now left behind whole : List ℕ) → i < length ss → s ≡ get_or ss i s → length left ≡ base_length (cells_of (drop i ss))
+    → now ≡ was ++ said_by s left → behind ≡ drop (step_base s) left → was ++ applied (cells_of (drop i ss)) left ≡ whole → now ++ applied (cells_of (drop (i + 1) ss)) behind ≡ whole
+applied-step ss i s was now left behind whole lt is long said rest all =
+    ap (λ l. l ++ applied (cells_of (drop (i + 1) ss)) behind) said
+    ∙ ap (λ l. (was ++ said_by s left) ++ applied (cells_of (drop (i + 1) ss)) l) rest
+    ∙ append_assoc was (said_by s left) _
+    ∙ ap (λ l. was ++ l) (sym (applied-after_step s (cells_of (drop (i + 1) ss)) left (omega (arith, long, base_length-step ss i s lt is))))
+    ∙ ap (λ d. was ++ applied d left) (sym (cells_of-drop ss i s lt is))
+    ∙ all

@@ -1,0 +1,13 @@
+pub mod CellsLemmas
+pub mod MarksLemmas
+pub mod NormalLemmas
+pub mod ComposedLemmas
+pub mod StepsLemmas
+pub mod AlikeLemmas
+pub mod WriterLemmas
+pub mod BuilderLemmas
+pub mod ReadingLemmas
+pub mod ApplyLemmas
+pub mod ComposingLemmas
+pub mod LawLemmas
+pub mod Rows

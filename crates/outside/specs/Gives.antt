@@ -1,0 +1,18 @@
+-- What a write does to a sink (POSIX, write).
+use Rattle.std.specs.Prelude.{◌≡◌, ◌<◌, ◌≤◌, ℕ, List, take, length}
+use Rattle.outside.specs.Faults.{Rose}
+use Rattle.outside.specs.Told.{with_back}
+use Rattle.outside.specs.SinkMeaning.{SinkMeaning}
+use Rattle.outside.specs.declared.sinks.Gave.{Gave}
+use Rattle.outside.specs.declared.sinks.Gave.TheVariants.{Bytes, Failed, Memory}
+
+-- the front of the piece is appended, or nothing is
+abbrev pub GaveSo : SinkMeaning → SinkMeaning → List ℕ → Gave → Type 0
+GaveSo old new piece (Bytes n) =
+    (0 < n) × (n ≤ length piece) × (new.written ≡ with_back old.written (take n piece))
+GaveSo old new piece Failed = (new.written ≡ old.written) × Rose old.faults new.faults
+GaveSo old new piece Memory = new.written ≡ old.written
+
+pub record Gives (old new : SinkMeaning) (piece : List ℕ) (answer : Gave) : Type 0 where
+  pub later : old.faults ≤ new.faults
+  pub so : GaveSo old new piece answer

@@ -1,0 +1,6 @@
+pub mod Faults
+pub mod Told
+pub mod SourceMeaning
+pub mod SinkMeaning
+pub mod Takes
+pub mod Gives
