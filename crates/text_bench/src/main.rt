@@ -1,11 +1,14 @@
-//! Runs one operation on texts and deltas of a given size, for measuring its time.
+//! Runs one operation on a text, a delta, a frame or a URI of a given size, for measuring its time.
 //!
-//! The words are the operation, the number of characters and the number of edits. It prints the
+//! The words are the operation, a size and a count: characters and edits, bytes of a body and of the
+//! pieces that its frame comes in, or bytes of a path and how often its URI is read. It prints the
 //! lengths of what came out, so that no work is left out.
 #![tactic(auto)]
 
 mod deltas;
+mod frames;
 mod transforms;
+mod uris;
 
 use anyhow::{Result, bail};
 use std::alloc::Global;
@@ -23,9 +26,12 @@ fn lengths(alloc: Global, operation: &str, size: usize, count: usize) -> Result<
         "finish" => deltas::finish(alloc, size, count),
         "apply" => deltas::apply(alloc, size, count),
         "compose" => deltas::compose_two(alloc, size, count),
+        "frames" => frames::read(alloc, size, count),
         "pass_editor" => transforms::editor(alloc, size, count),
         "pass_daemon" => transforms::daemon(alloc, size, count),
         "pass_list" => transforms::list(alloc, size, count),
+        "uris_plain" => uris::plain(alloc, size, count),
+        "uris_by_url" => uris::by_url(alloc, size, count),
         _ => bail!("there is no operation {operation}"),
     }
 }
