@@ -1,0 +1,4 @@
+pub mod PlacesLemmas
+pub mod EditLemmas
+pub mod PositionLemmas
+pub mod ChangesLemmas
