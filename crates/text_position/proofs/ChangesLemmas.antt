@@ -1,9 +1,9 @@
 -- The changes of a delta, by its steps.
-use Rattle.std.proofs.Common.{◌≡◌, ℕ, zero, suc, ◌+◌, ◌<◌, Bool, true, false, ◌&&◌, ◌||◌, not, ◌==◌, List, [], ◌∷◌, ◌++◌, length, drop, get_or, map, refl, sym, ap, ◌∙◌, ◌⊎◌, inl, inr, arith, append_assoc}
+use Rattle.std.proofs.Common.{◌≡◌, ℕ, zero, suc, ◌+◌, ◌<◌, Bool, true, false, ◌&&◌, ◌||◌, not, List, [], ◌∷◌, ◌++◌, length, drop, get_or, map, refl, sym, ap, ◌∙◌, ◌⊎◌, inl, inr, arith, append_assoc}
 use Rattle.std.proofs.lemmas.List.{append-nil, map-append, drop_more}
 use Rattle.tt_base.specs.declared.edits.TextEdit.{TextEdit}
-use Rattle.delta.specs.Cells.{Cell, Cells, with_cell, nothing, front, inserts, covers, is_nothing}
-use Rattle.delta.specs.Steps.{cells_of, step_base, MayFollow, MayLead, IsCanonical}
+use Rattle.delta.specs.Cells.{Cell, Cells, front, inserts, covers, is_nothing}
+use Rattle.delta.specs.Steps.{cells_of, step_base, MayLead, IsCanonical}
 use Rattle.delta.specs.declared.steps.DeltaStep.{DeltaStep}
 use Rattle.delta.specs.declared.steps.DeltaStep.TheVariants.{Keep, Insert, Delete}
 use Rattle.delta.proofs.CellsLemmas.{inserts_none}
@@ -71,9 +71,9 @@ changes-deleted gap n text d none =
     ∙ ap (λ b. change_if b gap (suc (run_of (covers false n d))) text ++ changes false (suc gap) (covers false n d)) (either (not (is_nothing text)))
     ∙ ap (λ r. change_if true gap r text ++ changes false (suc gap) (covers false n d)) run
     ∙ ap (λ l. change_if true gap (suc n) text ++ l) (changes-more_deleted (suc gap) n d ∙ ap (λ g. changes false g d) same ∙ changes-left (gap + suc n) d none) where
-  either : (b : Bool) → (b || true) ≡ true
-  either true = refl
-  either false = refl
+      either : (b : Bool) → (b || true) ≡ true
+      either true = refl
+      either false = refl
 
 -- an insertion, behind which the next character is kept
 changes-waiting_kept : (gap n : ℕ) (text : List ℕ) (d : Cells) → changes true gap (inserts text (covers true (suc n) d)) ≡ change_at_end gap text ++ changes true (gap + suc n) d
@@ -81,9 +81,9 @@ changes-waiting_kept gap n text d =
     ap (λ t. change_if (not (is_nothing t) || false) gap 0 t ++ changes true (suc gap) (covers true n d)) (append-nil text)
     ∙ ap (λ b. change_if b gap 0 text ++ changes true (suc gap) (covers true n d)) (either (not (is_nothing text)))
     ∙ ap (λ l. change_at_end gap text ++ l) (changes-kept true gap n d) where
-  either : (b : Bool) → (b || false) ≡ b
-  either true = refl
-  either false = refl
+      either : (b : Bool) → (b || false) ≡ b
+      either true = refl
+      either false = refl
 
 -- what is written from the steps are the changes of the delta
 pub changes_ahead-is : (gap : ℕ) (waiting : List ℕ) (ss : List DeltaStep) → IsCanonical ss → (waiting ≡ []) ⊎ MayLead (Insert waiting) ss → changes_ahead gap waiting ss ≡ changes true gap (inserts waiting (cells_of ss))

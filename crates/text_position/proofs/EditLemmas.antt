@@ -1,5 +1,5 @@
 -- The delta of one edit, and of a list of edits from one edit on.
-use Rattle.std.proofs.Common.{◌≡◌, ℕ, zero, suc, ◌+◌, ◌-◌, ◌<◌, ◌≤◌, true, false, List, [], ◌∷◌, length, drop, get_or, Result, Ok, Err, refl, sym, ap, ◌∙◌, ◌⊎◌, inl, inr, arith}
+use Rattle.std.proofs.Common.{◌≡◌, ℕ, zero, suc, ◌+◌, ◌-◌, ◌<◌, ◌≤◌, true, false, List, ◌∷◌, length, drop, get_or, Ok, Err, refl, sym, ap, ◌∙◌, ◌⊎◌, inl, inr, arith}
 use Rattle.std.proofs.lemmas.List.{drop_more}
 use Rattle.tt_base.specs.declared.edits.TextEdit.{TextEdit}
 use Rattle.delta.specs.Cells.{Cells, base_length, result_length, covers, inserts, joined, nothing, keeping, inserting, deleting, applied, changes_nothing, IsNormal}
@@ -51,9 +51,9 @@ pub built_change : (s n m : ℕ) (t : List ℕ) (a b c d e : Cells) → a ≡ no
     → e ≡ covers true s (inserts t (covers false n (keeping m)))
 built_change s n m t a b c d e a_is b_is c_is d_is e_is =
     let c_kept : c ≡ covers true s (inserting t) =
-        c_is ∙ ap (λ x. joined x (inserting t)) (built_keep s a b a_is b_is) ∙ joined-covers true s nothing (inserting t) in
+    c_is ∙ ap (λ x. joined x (inserting t)) (built_keep s a b a_is b_is) ∙ joined-covers true s nothing (inserting t) in
     let d_kept : d ≡ covers true s (inserts t (deleting n)) =
-        d_is ∙ ap (λ x. joined x (deleting n)) c_kept ∙ joined-covers true s (inserting t) (deleting n) in
+    d_is ∙ ap (λ x. joined x (deleting n)) c_kept ∙ joined-covers true s (inserting t) (deleting n) in
     e_is
     ∙ ap (λ x. joined x (keeping m)) d_kept
     ∙ joined-covers true s (inserts t (deleting n)) (keeping m)

@@ -1,6 +1,6 @@
 -- The place of a position, computed and by its definition, and that places and positions answer each
 -- other.
-use Rattle.std.proofs.Common.{◌≡◌, ℕ, zero, suc, ◌+◌, ◌<◌, ◌≤◌, Bool, true, false, List, [], ◌∷◌, ◌++◌, length, take, drop, Option, Some, None, nat_le, refl, sym, ap, subst, ◌∙◌, ◌⊎◌, inl, inr, arith, append_assoc, length-append}
+use Rattle.std.proofs.Common.{◌≡◌, ℕ, zero, suc, ◌+◌, ◌<◌, ◌≤◌, Bool, true, false, List, [], ◌∷◌, ◌++◌, length, take, drop, Option, Some, None, nat_le, refl, sym, ap, ◌∙◌, ◌⊎◌, inl, inr, arith, append_assoc, length-append}
 use Rattle.std.specs.Prelude.{option_map, option_and_then, if◌then◌else◌}
 use Rattle.std.proofs.lemmas.List.{take_at, drop_at, take-append-drop, length-take-le}
 use Rattle.std.proofs.lemmas.Bool.{le-leb, leb-true}
@@ -25,10 +25,10 @@ line_start-lines [] rest (suc n) h e = absurd (omega (arith, e))
 line_start-lines (ch ∷ lines) rest zero h e = absurd (omega (arith, e, some_line_end ch lines h))
 line_start-lines (ch ∷ lines) rest (suc n) h e =
     by_end (is_line_end ch) e (λ (m : ℕ). line_start-lines lines rest m (whole_behind ch lines h)) where
-  by_end : (b : Bool) → one_if b + line_ends lines ≡ suc n → ((m : ℕ) → line_ends lines ≡ m → line_start (lines ++ rest) m ≡ Some (length lines))
-      → option_map suc (line_start (lines ++ rest) (if b then n else suc n)) ≡ Some (suc (length lines))
-  by_end true e found = ap (option_map suc) (found n (omega (arith, e)))
-  by_end false e found = ap (option_map suc) (found (suc n) (omega (arith, e)))
+      by_end : (b : Bool) → one_if b + line_ends lines ≡ suc n → ((m : ℕ) → line_ends lines ≡ m → line_start (lines ++ rest) m ≡ Some (length lines))
+          → option_map suc (line_start (lines ++ rest) (if b then n else suc n)) ≡ Some (suc (length lines))
+      by_end true e found = ap (option_map suc) (found n (omega (arith, e)))
+      by_end false e found = ap (option_map suc) (found (suc n) (omega (arith, e)))
 
 line_length-before : (before behind : List ℕ) → line_ends before ≡ 0 → length before ≤ line_length (before ++ behind)
 line_length-before [] behind e = omega arith
@@ -101,11 +101,11 @@ line_start-is (ch ∷ text) (suc n) start e = by_end (is_line_end ch) refl e (li
 pub offset_at-place : (text : List ℕ) (p : Position) (offset : ℕ) → IsPlace text p offset → offset_at text p ≡ Some offset
 offset_at-place text p offset h =
     let start : line_start text p.line ≡ Some (length h.lines) =
-        ap (λ t. line_start t p.line) h.cut ∙ line_start-lines h.lines (h.before ++ h.behind) p.line h.whole h.line in
+    ap (λ t. line_start t p.line) h.cut ∙ line_start-lines h.lines (h.before ++ h.behind) p.line h.whole h.line in
     let left : drop (length h.lines) text ≡ h.before ++ h.behind =
-        ap (drop (length h.lines)) h.cut ∙ drop_at h.lines (h.before ++ h.behind) (length h.lines) refl in
+    ap (drop (length h.lines)) h.cut ∙ drop_at h.lines (h.before ++ h.behind) (length h.lines) refl in
     let long : p.character ≤ line_length (drop (length h.lines) text) =
-        omega (arith, h.character, ap line_length left, line_length-before h.before h.behind h.one_line) in
+    omega (arith, h.character, ap line_length left, line_length-before h.before h.behind h.one_line) in
     let sum : length h.lines + p.character ≡ offset = omega (arith, h.character, h.offset_is) in
     ap (option_and_then (offset_in_line text p.character)) start
     ∙ ap (λ b. if b then Some (length h.lines + p.character) else None) (le-leb p.character (line_length (drop (length h.lines) text)) long)
@@ -190,8 +190,8 @@ behind_cut lines before h e =
 pub position_at-place : (text : List ℕ) (p : Position) (offset : ℕ) → IsPlace text p offset → p ≡ position_at text offset
 position_at-place text p offset h =
     let front : take offset text ≡ h.lines ++ h.before =
-        ap (take offset) (h.cut ∙ sym (append_assoc h.lines h.before h.behind))
-        ∙ take_at (h.lines ++ h.before) h.behind offset (length-append h.lines h.before ∙ h.offset_is) in
+    ap (take offset) (h.cut ∙ sym (append_assoc h.lines h.before h.behind))
+    ∙ take_at (h.lines ++ h.before) h.behind offset (length-append h.lines h.before ∙ h.offset_is) in
     sym (ap (position_behind first_position) front
     ∙ behind_cut h.lines h.before h.whole h.one_line
     ∙ ap (λ l. record { line = l; character = length h.before }) h.line
@@ -226,7 +226,7 @@ pub place-position_at : (text : List ℕ) (offset : ℕ) → offset ≤ length t
 place-position_at text offset h =
     let c = cut_of (take offset text) in
     let is : position_at text offset ≡ record { line = line_ends c.lines; character = length c.before } =
-        ap (position_behind first_position) c.cut ∙ behind_cut c.lines c.before c.whole c.one_line in
+    ap (position_behind first_position) c.cut ∙ behind_cut c.lines c.before c.whole c.one_line in
     record {
       lines = c.lines;
       before = c.before;

@@ -1,5 +1,5 @@
 -- The edits that a delta is written as.
-use Rattle.std.specs.Prelude.{◌≡◌, ℕ, suc, ◌+◌, ◌<◌, ◌≤◌, Bool, true, false, ◌&&◌, ◌||◌, not, List, [], ◌∷◌, ◌++◌, length, map, reverse}
+use Rattle.std.specs.Prelude.{ℕ, suc, ◌+◌, ◌<◌, ◌≤◌, Bool, true, false, ◌&&◌, ◌||◌, not, List, [], ◌∷◌, ◌++◌, map, reverse}
 use Rattle.tt_base.specs.declared.edits.TextEdit.{TextEdit}
 use Rattle.delta.specs.Cells.{Cell, Cells, is_nothing}
 use Rattle.text_position.specs.Places.{IsPlace, position_at}

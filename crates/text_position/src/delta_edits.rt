@@ -111,10 +111,12 @@ fn write_step<'a>(
 /// deleted characters, whose range is that run and whose replacement is the insertion.
 ///
 /// They stand from the back of the text to its front, with positions in the old text, so they are the
-/// same edits whether they apply at once or one after the other.
+/// same edits whether they apply at once or one after the other. `from_edits` gives their delta back.
 pub fn to_edits(alloc: Global, text: &Text, d: &Delta) -> Result<List<TextEdit>, AllocError>
     requires { base_length d.now ≡ length text.now }
     ensures edits { IfOk result (λ edits. edits ≡ edits_of text.now d.now) }
+    ensures apart { IfOk result (λ edits. AreApart text.now (length text.now + 1) edits) }
+    ensures round_trip { IfOk result (λ edits. delta_of_edits text.now edits ≡ Ok d.now) }
 {
     let chars = text.as_slice();
     let mut edits = Vec::new(alloc);

@@ -7,9 +7,13 @@
 mod delta_edits;
 mod edit_lists;
 mod faults;
+pub mod laws;
 mod places;
 
 pub use delta_edits::to_edits;
 pub use edit_lists::from_edits;
 pub use faults::{BadPosition, EditsFault};
 pub use places::{offset_of, position_of};
+
+#[cfg(test)]
+mod tests;

@@ -10,7 +10,7 @@ position_behind-requires-clause-line c =
     let text = c.args.chars.now in
     let place = c.args.place in
     let size : length (take (place + c.args.count - place) (drop place text)) ≡ place + c.args.count - place =
-        length-take-le (place + c.args.count - place) (drop place text) (omega (arith, length-drop place text, c.requires.within)) in
+    length-take-le (place + c.args.count - place) (drop place text) (omega (arith, length-drop place text, c.requires.within)) in
     omega (arith, size, (position_at-bounds text place (omega (arith, c.requires.within))).0, ap (λ (p : Position). p.line) c.requires.position, c.requires.within)
 
 pub position_behind-requires-clause-character : goal.position_behind-requires-clause-character
@@ -18,7 +18,7 @@ position_behind-requires-clause-character c =
     let text = c.args.chars.now in
     let place = c.args.place in
     let size : length (take (place + c.args.count - place) (drop place text)) ≡ place + c.args.count - place =
-        length-take-le (place + c.args.count - place) (drop place text) (omega (arith, length-drop place text, c.requires.within)) in
+    length-take-le (place + c.args.count - place) (drop place text) (omega (arith, length-drop place text, c.requires.within)) in
     omega (arith, size, (position_at-bounds text place (omega (arith, c.requires.within))).1, ap (λ (p : Position). p.character) c.requires.position, c.requires.within)
 
 pub returns : goal.returns

@@ -21,5 +21,5 @@ pub returns-in_ok-reached-clause-base : goal.returns-in_ok-reached-clause-base
 returns-in_ok-reached-clause-base c =
     let P : ℕ → Type 0 = λ size. IfOk c.delta_of_edit-else-is_empty.result (λ (delta : Cells). base_length delta ≡ size) in
     let size : length c.in_ok-reached.reached ≡ result_length c.args.so_far.now =
-        ap length c.in_ok-reached.ensures ∙ length-applied c.args.so_far.now c.args.text.now (sym c.requires) in
+    ap length c.in_ok-reached.ensures ∙ length-applied c.args.so_far.now c.args.text.now (sym c.requires) in
     subst P size c.delta_of_edit-else-is_empty.ensures.base

@@ -16,5 +16,5 @@ loop-index-init c =
 pub returns-in_err-delta-2 : goal.returns-in_err-delta-2
 returns-in_err-delta-2 c =
     let refused : (delta_of_edits c.args.text.now c.args.edits.now ≡ Err c.in_err-delta-2.field-0.0) ⊎ (c.in_err-delta-2.field-0.0 ≡ Memory) =
-        with_edits-refused c.loop-index.index c.args.text.now c.loop-index.delta c.args.edits.now c.index-edits-index.result _ _ c.loop-index-test.true c.index-edits-index.is c.in_err-delta-2.ensures.gives c.loop-index.invariant.gives in
+    with_edits-refused c.loop-index.index c.args.text.now c.loop-index.delta c.args.edits.now c.index-edits-index.result _ _ c.loop-index-test.true c.index-edits-index.is c.in_err-delta-2.ensures.gives c.loop-index.invariant.gives in
     search rules

@@ -1,4 +1,4 @@
-use Rattle.std.proofs.Common.{◌≡◌, ℕ, zero, suc, ◌+◌, ◌-◌, ◌<◌, Bool, true, false, ◌==◌, List, [], ◌∷◌, length, drop, get_or, Option, Some, None, refl, sym, ap, ◌∙◌, arith}
+use Rattle.std.proofs.Common.{◌≡◌, ℕ, zero, suc, ◌+◌, ◌-◌, ◌<◌, List, ◌∷◌, length, drop, get_or, Option, Some, None, refl, sym, ap, ◌∙◌, arith}
 use Rattle.std.specs.Prelude.{option_map, if◌then◌else◌}
 use Rattle.std.proofs.lemmas.Bool.{eq-eqb, ne_eqb}
 use Rattle.std.proofs.lemmas.List.{drop_more}
@@ -28,10 +28,10 @@ loop-i-preserved c =
     elim c.if-ch-eq10.branch [
       | then-ch-eq10 w ↦
           let step : c.if-ch-eq10.left ≡ (if is_line_end c.index-chars-i.result then c.loop-i.left - 1 else c.loop-i.left) =
-              w.left-is ∙ ap (λ b. if b then c.loop-i.left - 1 else c.loop-i.left) (sym (eq-eqb c.index-chars-i.result 10 w.if-ch-eq10.true)) in
+          w.left-is ∙ ap (λ b. if b then c.loop-i.left - 1 else c.loop-i.left) (sym (eq-eqb c.index-chars-i.result 10 w.if-ch-eq10.true)) in
           line_start-drop c.args.chars.now c.loop-i.i c.index-chars-i.result c.loop-i.left c.if-ch-eq10.left _ c.loop-i-test.true c.index-chars-i.is some step c.loop-i.invariant
       | else-ch-eq10 w ↦
           let step : c.if-ch-eq10.left ≡ (if is_line_end c.index-chars-i.result then c.loop-i.left - 1 else c.loop-i.left) =
-              w.left-is ∙ ap (λ b. if b then c.loop-i.left - 1 else c.loop-i.left) (sym (ne_eqb c.index-chars-i.result 10 w.if-ch-eq10.false)) in
+          w.left-is ∙ ap (λ b. if b then c.loop-i.left - 1 else c.loop-i.left) (sym (ne_eqb c.index-chars-i.result 10 w.if-ch-eq10.false)) in
           line_start-drop c.args.chars.now c.loop-i.i c.index-chars-i.result c.loop-i.left c.if-ch-eq10.left _ c.loop-i-test.true c.index-chars-i.is some step c.loop-i.invariant
     ]
