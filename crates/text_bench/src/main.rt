@@ -1,12 +1,14 @@
 //! Runs one operation on a text, a delta, a frame or a URI of a given size, for measuring its time.
 //!
-//! The words are the operation, a size and a count: characters and edits, bytes of a body and of the
-//! pieces that its frame comes in, or bytes of a path and how often its URI is read. It prints the
-//! lengths of what came out, so that no work is left out.
+//! The words are the operation, a size and a count: the characters of a text and the edits or
+//! positions, the bytes of a body and of the pieces that its frame comes in, or the bytes of a path
+//! and how often its URI is read. It prints the lengths or sums of what came out, so that no work is
+//! left out.
 #![tactic(auto)]
 
 mod deltas;
 mod frames;
+mod positions;
 mod transforms;
 mod uris;
 
@@ -30,6 +32,10 @@ fn lengths(alloc: Global, operation: &str, size: usize, count: usize) -> Result<
         "pass_editor" => transforms::editor(alloc, size, count),
         "pass_daemon" => transforms::daemon(alloc, size, count),
         "pass_list" => transforms::list(alloc, size, count),
+        "position_of" => positions::positions(alloc, size, count),
+        "offset_of" => positions::offsets(alloc, size, count),
+        "from_edits" => positions::delta_of(alloc, size, count),
+        "to_edits" => positions::edits_back(alloc, size, count),
         "uris_plain" => uris::plain(alloc, size, count),
         "uris_by_url" => uris::by_url(alloc, size, count),
         _ => bail!("there is no operation {operation}"),

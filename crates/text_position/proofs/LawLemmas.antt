@@ -1,0 +1,206 @@
+-- What a list of edits does to a text, and which edit is refused.
+use Rattle.std.proofs.Common.{◌≡◌, ℕ, suc, ◌+◌, ◌-◌, ◌≤◌, Bool, true, false, List, [], ◌∷◌, ◌++◌, length, take, drop, Option, Some, None, Ok, Err, nat_le, refl, sym, ap, subst, ◌∙◌, inl, inr, arith}
+use Rattle.std.specs.Prelude.{if◌then◌else◌}
+use Rattle.std.proofs.lemmas.List.{append-nil, take_all, drop-drop, length-drop}
+use Rattle.std.proofs.lemmas.Bool.{leb-true, leb-false, lt-leb}
+use Rattle.tt_base.specs.declared.edits.Position.{Position}
+use Rattle.tt_base.specs.declared.edits.TextEdit.{TextEdit}
+use Rattle.delta.specs.Cells.{Cells, base_length, covers, inserts, nothing, keeping, applied}
+use Rattle.delta.specs.Marks.{composed}
+use Rattle.delta.proofs.CellsLemmas.{base_length-covers}
+use Rattle.delta.proofs.ApplyLemmas.{applied-inserts, applied-kept, applied-deleted}
+use Rattle.delta.proofs.ComposedLemmas.{applied-composed, base_length-composed}
+use Rattle.text_position.specs.Places.{IsPlace, offset_at}
+use Rattle.text_position.specs.Edits.{Reading, and_then, replacing, range_between, delta_of_edit, with_edits, delta_of_edits, LeadInTurn}
+use Rattle.text_position.specs.declared.faults.EditsFault.TheVariants.{BadPosition, BackwardRange}
+use Rattle.text_position.specs.Laws.{IsNoRange, IsRefusedAt}
+use Rattle.text_position.specs.declared.faults.EditsFault.{EditsFault}
+use Rattle.text_position.proofs.PlacesLemmas.{offset_at-place, place-offset_at, place-within, no_place}
+use Rattle.text_position.proofs.RoundTripLemmas.{with_edits-append}
+
+applied-all : (n : ℕ) (text : List ℕ) → length text ≡ n → applied (keeping n) text ≡ text
+applied-all n text long =
+    applied-kept n nothing text (omega (arith, long))
+    ∙ append-nil (take n text)
+    ∙ take_all n text (omega (arith, long))
+
+-- the delta of one replacement replaces the characters
+pub applied-replacing : (text : List ℕ) (start end : ℕ) (t : List ℕ) → start ≤ end → end ≤ length text → applied (replacing (length text) start end t) text ≡ take start text ++ (t ++ drop end text)
+applied-replacing text start end t forward within =
+    let left : List ℕ = drop start text in
+    let size = length-drop start text in
+    let sum : start + (end - start) ≡ end = omega arith in
+    let behind : drop (end - start) left ≡ drop end text = drop-drop (end - start) start text ∙ ap (λ n. drop n text) sum in
+    applied-kept start (inserts t (covers false (end - start) (keeping (length text - end)))) text (omega arith)
+    ∙ ap (λ l. take start text ++ l) (applied-inserts t (covers false (end - start) (keeping (length text - end))) left
+    ∙ ap (λ l. t ++ l) (applied-deleted (end - start) (keeping (length text - end)) left (omega (arith, size))
+    ∙ ap (applied (keeping (length text - end))) behind
+    ∙ applied-all (length text - end) (drop end text) (length-drop end text)))
+
+-- an edit that has a delta
+record IsGood (text : List ℕ) (edit : TextEdit) (d : Cells) : Type 0 where
+  start : ℕ
+  end : ℕ
+  start_is : IsPlace text edit.start start
+  end_is : IsPlace text edit.end end
+  forward : start ≤ end
+  delta_is : d ≡ replacing (length text) start end edit.replacement
+
+good_edit : (index : ℕ) (text : List ℕ) (edit : TextEdit) (d : Cells) → delta_of_edit index text edit ≡ Ok d → IsGood text edit d
+good_edit index text edit d e = by_places (offset_at text edit.start) (offset_at text edit.end) refl refl e where
+  by_order : (s t : ℕ) → offset_at text edit.start ≡ Some s → offset_at text edit.end ≡ Some t → (b : Bool) → nat_le s t ≡ b → and_then {T = ℕ × ℕ} (if b then Ok (s, t) else Err (BackwardRange index)) (λ range. Ok (replacing (length text) range.0 range.1 edit.replacement)) ≡ Ok d → IsGood text edit d
+  by_order s t start end true test e = record {
+    start = s;
+    end = t;
+    start_is = place-offset_at text edit.start s start;
+    end_is = place-offset_at text edit.end t end;
+    forward = leb-true s t test;
+    delta_is = cc;
+  }
+  by_order s t start end false test e = absurd (cc)
+
+  by_places : (o p : Option ℕ) → offset_at text edit.start ≡ o → offset_at text edit.end ≡ p → and_then (range_between index o p) (λ range. Ok (replacing (length text) range.0 range.1 edit.replacement)) ≡ Ok d → IsGood text edit d
+  by_places None p start end e = absurd (cc)
+  by_places (Some s) None start end e = absurd (cc)
+  by_places (Some s) (Some t) start end e = by_order s t start end (nat_le s t) refl e
+
+lead_in_turn : (index : ℕ) (text : List ℕ) (so_far : Cells) (edits : List TextEdit) (d : Cells) → base_length so_far ≡ length text → with_edits index text so_far edits ≡ Ok d → LeadInTurn (applied so_far text) edits (applied d text)
+lead_in_turn index text so_far [] d long e = let is : d ≡ so_far = cc in ap (λ x. applied x text) is
+lead_in_turn index text so_far (edit ∷ edits) d long e =
+    by_edit (delta_of_edit index (applied so_far text) edit) refl e (λ (x : Cells). lead_in_turn (index + 1) text (composed so_far x) edits d (base_length-composed so_far x ∙ long)) where
+      by_edit : (r : Reading Cells) → delta_of_edit index (applied so_far text) edit ≡ r → and_then r (λ x. with_edits (index + 1) text (composed so_far x) edits) ≡ Ok d
+          → ((x : Cells) → with_edits (index + 1) text (composed so_far x) edits ≡ Ok d → LeadInTurn (applied (composed so_far x) text) edits (applied d text))
+          → LeadInTurn (applied so_far text) (edit ∷ edits) (applied d text)
+      by_edit (Err fault) is e rest = absurd (cc)
+      by_edit (Ok x) is e rest =
+          let reached : List ℕ = applied so_far text in
+          let good = good_edit index reached edit x is in
+          let within = place-within reached edit.end good.end good.end_is in (
+            applied (composed so_far x) text,
+            (
+              record {
+                start = good.start;
+                end = good.end;
+                start_is = good.start_is;
+                end_is = good.end_is;
+                forward = good.forward;
+                after_is =
+                    applied-composed so_far x text long
+                    ∙ ap (λ y. applied y reached) good.delta_is
+                    ∙ applied-replacing reached good.start good.end edit.replacement good.forward within;
+              },
+              rest x e,
+            ),
+          )
+
+pub edits_lead_in_turn : (text : List ℕ) (edits : List TextEdit) (d : Cells) → delta_of_edits text edits ≡ Ok d → LeadInTurn text edits (applied d text)
+edits_lead_in_turn text edits d e =
+    let P : List ℕ → Type 0 = λ t. LeadInTurn t edits (applied d text) in
+    subst P (applied-all (length text) text refl)
+    (lead_in_turn 0 text (keeping (length text)) edits d (omega (arith, base_length-covers true (length text) nothing)) e)
+
+-- an edit that has no delta
+bad_edit : (index : ℕ) (text : List ℕ) (edit : TextEdit) (fault : EditsFault) → delta_of_edit index text edit ≡ Err fault → IsNoRange text edit index fault
+bad_edit index text edit fault e = by_places (offset_at text edit.start) (offset_at text edit.end) refl refl e where
+  by_order : (s t : ℕ) → offset_at text edit.start ≡ Some s → offset_at text edit.end ≡ Some t → (b : Bool) → nat_le s t ≡ b
+      → and_then {T = ℕ × ℕ} (if b then Ok (s, t) else Err (BackwardRange index)) (λ range. Ok (replacing (length text) range.0 range.1 edit.replacement)) ≡ Err fault → IsNoRange text edit index fault
+  by_order s t start end true test e = absurd (cc)
+  by_order s t start end false test e =
+      inr (cc, (s, (t, (place-offset_at text edit.start s start, place-offset_at text edit.end t end, leb-false s t test))))
+
+  by_places : (o p : Option ℕ) → offset_at text edit.start ≡ o → offset_at text edit.end ≡ p
+      → and_then (range_between index o p) (λ range. Ok (replacing (length text) range.0 range.1 edit.replacement)) ≡ Err fault → IsNoRange text edit index fault
+  by_places None p start end e = inl (cc, inl (no_place text edit.start start))
+  by_places (Some s) None start end e = inl (cc, inr (no_place text edit.end end))
+  by_places (Some s) (Some t) start end e = by_order s t start end (nat_le s t) refl e
+
+-- where an edit of a list is refused, behind a delta so far
+record IsRefusedFrom (index : ℕ) (text : List ℕ) (so_far : Cells) (edits : List TextEdit) (fault : EditsFault) : Type 0 where
+  before : List TextEdit
+  edit : TextEdit
+  behind : List TextEdit
+  cut : edits ≡ before ++ edit ∷ behind
+  reached : Cells
+  before_is_good : with_edits index text so_far before ≡ Ok reached
+  no_range : IsNoRange (applied reached text) edit (index + length before) fault
+
+refused_from : (index : ℕ) (text : List ℕ) (so_far : Cells) (edits : List TextEdit) (fault : EditsFault) → with_edits index text so_far edits ≡ Err fault → IsRefusedFrom index text so_far edits fault
+refused_from index text so_far [] fault e = absurd (cc)
+refused_from index text so_far (edit ∷ edits) fault e =
+    by_edit (delta_of_edit index (applied so_far text) edit) refl e (λ (x : Cells). refused_from (index + 1) text (composed so_far x) edits fault) where
+      by_edit : (r : Reading Cells) → delta_of_edit index (applied so_far text) edit ≡ r → and_then r (λ x. with_edits (index + 1) text (composed so_far x) edits) ≡ Err fault
+          → ((x : Cells) → with_edits (index + 1) text (composed so_far x) edits ≡ Err fault → IsRefusedFrom (index + 1) text (composed so_far x) edits fault)
+          → IsRefusedFrom index text so_far (edit ∷ edits) fault
+      by_edit (Err cause) is e rest =
+          let same : cause ≡ fault = cc in
+          let start : index ≡ index + 0 = omega arith in
+          let P : ℕ → Type 0 = λ i. IsNoRange (applied so_far text) edit i fault in
+          record {
+            before = [];
+            edit = edit;
+            behind = edits;
+            cut = refl;
+            reached = so_far;
+            before_is_good = refl;
+            no_range = subst P start (bad_edit index (applied so_far text) edit fault (is ∙ ap Err same));
+          }
+      by_edit (Ok x) is e rest =
+          let later = rest x e in
+          let sum : index + 1 + length later.before ≡ index + suc (length later.before) = omega arith in
+          let P : ℕ → Type 0 = λ i. IsNoRange (applied later.reached text) later.edit i fault in
+          record {
+            before = edit ∷ later.before;
+            edit = later.edit;
+            behind = later.behind;
+            cut = ap (λ es. edit ∷ es) later.cut;
+            reached = later.reached;
+            before_is_good =
+                ap (λ r. and_then r (λ y. with_edits (index + 1) text (composed so_far y) later.before)) is ∙ later.before_is_good;
+            no_range = subst P sum later.no_range;
+          }
+
+pub refusal_tells_first : (text : List ℕ) (edits : List TextEdit) (fault : EditsFault) → delta_of_edits text edits ≡ Err fault → IsRefusedAt text edits fault
+refusal_tells_first text edits fault e =
+    let h = refused_from 0 text (keeping (length text)) edits fault e in
+    let sum : 0 + length h.before ≡ length h.before = omega arith in
+    let P : ℕ → Type 0 = λ i. IsNoRange (applied h.reached text) h.edit i fault in
+    record {
+      before = h.before;
+      edit = h.edit;
+      behind = h.behind;
+      cut = h.cut;
+      so_far = h.reached;
+      before_is_good = h.before_is_good;
+      no_range = subst P sum h.no_range;
+    }
+
+none_from : (text : List ℕ) (p : Position) → ((offset : ℕ) → IsPlace text p offset → ⊥) → offset_at text p ≡ None
+none_from text p none = by_value (offset_at text p) refl where
+  by_value : (o : Option ℕ) → offset_at text p ≡ o → o ≡ None
+  by_value None is = refl
+  by_value (Some offset) is = absurd (none offset (place-offset_at text p offset is))
+
+edit_of_bad : (index : ℕ) (text : List ℕ) (edit : TextEdit) (fault : EditsFault) → IsNoRange text edit index fault → delta_of_edit index text edit ≡ Err fault
+edit_of_bad index text edit fault (inl (bad, inl none)) =
+    ap (λ o. and_then (range_between index o (offset_at text edit.end)) (λ range. Ok (replacing (length text) range.0 range.1 edit.replacement))) (none_from text edit.start none)
+    ∙ ap Err (sym bad)
+edit_of_bad index text edit fault (inl (bad, inr none)) =
+    ap (λ o. and_then (range_between index (offset_at text edit.start) o) (λ range. Ok (replacing (length text) range.0 range.1 edit.replacement))) (none_from text edit.end none)
+    ∙ by_start (offset_at text edit.start)
+    ∙ ap Err (sym bad) where
+      by_start : (o : Option ℕ) → and_then {U = Cells} (range_between index o None) (λ range. Ok (replacing (length text) range.0 range.1 edit.replacement)) ≡ Err (BadPosition index)
+      by_start None = refl
+      by_start (Some s) = refl
+edit_of_bad index text edit fault (inr (bad, (s, (t, h)))) =
+    ap (λ o. and_then (range_between index o (offset_at text edit.end)) (λ range. Ok (replacing (length text) range.0 range.1 edit.replacement))) (offset_at-place text edit.start s h.0)
+    ∙ ap (λ o. and_then (range_between index (Some s) o) (λ range. Ok (replacing (length text) range.0 range.1 edit.replacement))) (offset_at-place text edit.end t h.1)
+    ∙ ap (λ b. and_then {T = ℕ × ℕ} (if b then Ok (s, t) else Err (BackwardRange index)) (λ range. Ok (replacing (length text) range.0 range.1 edit.replacement))) (lt-leb s t h.2)
+    ∙ ap Err (sym bad)
+
+pub first_bad_is_refused : (text : List ℕ) (edits : List TextEdit) (fault : EditsFault) → IsRefusedAt text edits fault → delta_of_edits text edits ≡ Err fault
+first_bad_is_refused text edits fault h =
+    let sum : 0 + length h.before ≡ length h.before = omega arith in
+    ap (delta_of_edits text) h.cut
+    ∙ with_edits-append 0 text (keeping (length text)) h.so_far h.before (h.edit ∷ h.behind) h.before_is_good
+    ∙ ap (λ i. with_edits i text h.so_far (h.edit ∷ h.behind)) sum
+    ∙ ap (λ r. and_then r (λ x. with_edits (length h.before + 1) text (composed h.so_far x) h.behind)) (edit_of_bad (length h.before) (applied h.so_far text) h.edit fault h.no_range)

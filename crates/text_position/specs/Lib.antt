@@ -1,0 +1,5 @@
+pub mod Places
+pub mod Edits
+pub mod Changes
+pub mod Writing
+pub mod Laws

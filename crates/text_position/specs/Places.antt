@@ -1,0 +1,70 @@
+-- Lines and characters of a text, as the Language Server Protocol 3.17 has them in a Position. Of its
+-- line ends LF alone is one here, and a character is a Unicode scalar value.
+use Rattle.std.specs.Prelude.{◌≡◌, ℕ, zero, suc, ◌+◌, Bool, true, false, ◌==◌, nat_le, List, [], ◌∷◌, ◌++◌, length, take, drop, Option, Some, None, option_map, option_and_then, if◌then◌else◌}
+use Rattle.delta.specs.Cells.{one_if}
+use Rattle.tt_base.specs.declared.edits.Position.{Position}
+
+-- LF, which ends a line
+abbrev pub is_line_end : ℕ → Bool
+is_line_end ch = ch == 10
+
+-- the number of lines that end in a text
+abbrev pub line_ends : List ℕ → ℕ
+line_ends [] = 0
+line_ends (ch ∷ text) = one_if (is_line_end ch) + line_ends text
+
+-- the text is empty, or its last character ends a line
+abbrev pub IsWholeLines : List ℕ → Type 0
+IsWholeLines [] = Unit {0}
+IsWholeLines (ch ∷ []) = is_line_end ch ≡ true
+IsWholeLines (ch ∷ (next ∷ text)) = IsWholeLines (next ∷ text)
+
+-- the position is that of a place with so many characters before it: its line begins behind as many
+-- line ends as it says, and so many characters of that line stand before the place
+pub record IsPlace (text : List ℕ) (p : Position) (offset : ℕ) : Type 0 where
+  pub lines : List ℕ
+  pub before : List ℕ
+  pub behind : List ℕ
+  pub cut : text ≡ lines ++ (before ++ behind)
+  pub whole : IsWholeLines lines
+  pub line : line_ends lines ≡ p.line
+  pub one_line : line_ends before ≡ 0
+  pub character : length before ≡ p.character
+  pub offset_is : length lines + length before ≡ offset
+
+-- the number of characters before a line, where there are so many lines
+abbrev pub line_start : List ℕ → ℕ → Option ℕ
+line_start text zero = Some 0
+line_start [] (suc line) = None
+line_start (ch ∷ text) (suc line) =
+    option_map suc (line_start text (if is_line_end ch then line else suc line))
+
+-- the number of characters before the first line end, or of all where there is none
+abbrev pub line_length : List ℕ → ℕ
+line_length [] = 0
+line_length (ch ∷ text) = if is_line_end ch then 0 else suc (line_length text)
+
+-- a character of the line that begins behind so many characters
+abbrev pub offset_in_line : List ℕ → ℕ → ℕ → Option ℕ
+offset_in_line text character start =
+    if nat_le character (line_length (drop start text)) then Some (start + character) else None
+
+-- the number of characters before a position, where the text has it
+abbrev pub offset_at : List ℕ → Position → Option ℕ
+offset_at text p = option_and_then (offset_in_line text p.character) (line_start text p.line)
+
+abbrev pub position_behind_char : Bool → Position → Position
+position_behind_char true p = record { line = p.line + 1; character = 0 }
+position_behind_char false p = record { line = p.line; character = p.character + 1 }
+
+-- the position behind a text that begins at a position
+abbrev pub position_behind : Position → List ℕ → Position
+position_behind p [] = p
+position_behind p (ch ∷ text) = position_behind (position_behind_char (is_line_end ch) p) text
+
+abbrev pub first_position : Position
+first_position = record { line = 0; character = 0 }
+
+-- the position with so many characters of the text before it
+abbrev pub position_at : List ℕ → ℕ → Position
+position_at text offset = position_behind first_position (take offset text)
