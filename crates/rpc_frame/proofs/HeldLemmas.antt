@@ -47,7 +47,7 @@ numbers-several (n ∷ []) e = cc
 numbers-several (n ∷ m ∷ numbers) e = (n, m, numbers, refl)
 
 -- a place that is not behind the header part
-open_or_whole : (limit : ℕ) (p : Place) → (p ≡ Whole) ⊎ ((0 < missing p) × ((l : Lengths) → stage_at limit p l ≡ Ok (Head (record { place = p; lengths = l }))))
+pub open_or_whole : (limit : ℕ) (p : Place) → (p ≡ Whole) ⊎ ((0 < missing p) × ((l : Lengths) → stage_at limit p l ≡ Ok (Head (record { place = p; lengths = l }))))
 open_or_whole limit FirstLine = inr (omega arith, λ l. refl)
 open_or_whole limit NextLine = inr (omega arith, λ l. refl)
 open_or_whole limit (LengthName matched) = elim (cases_Bool (nat_lt matched 14)) [ inl cut ↦ inr (rw cut (omega arith), λ l. refl) | inr whole ↦ inr (rw whole (omega arith), λ l. refl) ]
@@ -74,7 +74,7 @@ behind_reached limit (One n) stage head body none scan short e = elim (cases_Boo
 ]
 
 -- the stage behind a byte that is taken
-stage_reached : (limit : ℕ) (scan : Scan) (stage : Stage) (head body : List ℕ) → body ≡ [] → scan ≡ scan_over start head → length head + missing scan.place ≤ 8192 → stage_at limit scan.place scan.lengths ≡ Ok stage → IsReachedAt limit stage head body
+pub stage_reached : (limit : ℕ) (scan : Scan) (stage : Stage) (head body : List ℕ) → body ≡ [] → scan ≡ scan_over start head → length head + missing scan.place ≤ 8192 → stage_at limit scan.place scan.lengths ≡ Ok stage → IsReachedAt limit stage head body
 stage_reached limit scan stage head body none is few e = elim (open_or_whole limit scan.place) [
   | inl whole ↦
       let behind : stage_behind limit scan.lengths ≡ Ok stage = sym (ap (λ p. stage_at limit p scan.lengths) whole) ∙ e in
@@ -87,7 +87,7 @@ stage_reached limit scan stage head body none is few e = elim (open_or_whole lim
 ]
 
 -- the scan after one more byte
-scan_of-more : (scan : Scan) (head : List ℕ) (b : ℕ) → scan ≡ scan_over start head → scan_after scan b ≡ scan_over start (head ++ (b ∷ []))
+pub scan_of-more : (scan : Scan) (head : List ℕ) (b : ℕ) → scan ≡ scan_over start head → scan_after scan b ≡ scan_over start (head ++ (b ∷ []))
 scan_of-more scan head b is = ap (λ s. scan_after s b) is ∙ sym (scan_over-append start head (b ∷ []))
 
 -- a byte that is taken leaves the reader in its place
@@ -124,7 +124,7 @@ lengths_refused limit (One n) fault fields bytes more h e r = elim (cases_Bool (
 ]
 
 -- a header part that is whole has this fault
-whole_refused : (limit : ℕ) (scan : Scan) (fault : FrameFault) (head more : List ℕ) → scan ≡ scan_over start head → length head + missing scan.place ≤ 8192 → stage_at limit scan.place scan.lengths ≡ Err (Fault fault) → HasFault limit fault (head ++ more)
+pub whole_refused : (limit : ℕ) (scan : Scan) (fault : FrameFault) (head more : List ℕ) → scan ≡ scan_over start head → length head + missing scan.place ≤ 8192 → stage_at limit scan.place scan.lengths ≡ Err (Fault fault) → HasFault limit fault (head ++ more)
 whole_refused limit scan fault head more is few e = elim (open_or_whole limit scan.place) [
   | inr goes_on ↦ let never : Ok (Head scan) ≡ Err (Fault fault) = sym (goes_on.1 scan.lengths) ∙ e in cc
   | inl whole ↦
@@ -135,7 +135,7 @@ whole_refused limit scan fault head more is few e = elim (open_or_whole limit sc
 ]
 
 -- no header part begins with one byte more
-bad_byte : (head more : List ℕ) (b : ℕ) → 0 < missing (scan_over start head).place → length head + missing (scan_over start head).place ≤ 8192 → 8192 < length head + 1 + missing (scan_over start (head ++ (b ∷ []))).place → IsBadAt (length head) (head ++ (b ∷ more))
+pub bad_byte : (head more : List ℕ) (b : ℕ) → 0 < missing (scan_over start head).place → length head + missing (scan_over start head).place ≤ 8192 → 8192 < length head + 1 + missing (scan_over start (head ++ (b ∷ []))).place → IsBadAt (length head) (head ++ (b ∷ more))
 bad_byte head more b some few bad = record {
   here = omega (arith, length-append head (b ∷ more));
   begun = subst IsHeaderBegun (sym (take-append_seam head (b ∷ more))) (begun_from head some few);
@@ -178,7 +178,7 @@ body_whole limit n head body at e = record {
 }
 
 -- what is held is a frame begun
-begun_at : (limit : ℕ) (stage : Stage) (head body : List ℕ) → IsReachedAt limit stage head body → IsShort stage body → IsFrameBegun limit (head ++ body)
+pub begun_at : (limit : ℕ) (stage : Stage) (head body : List ℕ) → IsReachedAt limit stage head body → IsShort stage body → IsFrameBegun limit (head ++ body)
 begun_at limit (Head scan) head body at short =
     let some : 0 < missing (scan_over start head).place = subst (λ (s : Scan). 0 < missing s.place) at.1 at.2 in
     let few : length head + missing (scan_over start head).place ≤ 8192 = subst (λ (s : Scan). length head + missing s.place ≤ 8192) at.1 at.3 in

@@ -10,3 +10,5 @@ pub mod Slices
 pub mod OneReading
 pub mod ReaderLemmas
 pub mod WrittenLemmas
+pub mod EveryStream
+pub mod FrameRows

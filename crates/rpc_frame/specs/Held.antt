@@ -28,9 +28,11 @@ abbrev pub IsShort : Stage → List ℕ → Type 0
 IsShort (Head scan) body = Unit {0}
 IsShort (Body number) body = length body < number
 
+-- what is held is so, and its body may be whole
 pub record IsReached (limit : ℕ) (begun : FrameBegun) : Type 0 where
   pub at : IsReachedAt limit begun.stage begun.head.items begun.body.items
 
+-- what is held is so, and is no whole frame
 pub record IsHeld (limit : ℕ) (begun : FrameBegun) : Type 0 where
   pub at : IsReachedAt limit begun.stage begun.head.items begun.body.items
   pub short : IsShort begun.stage begun.body.items

@@ -14,11 +14,13 @@ kept_of standing.Reading begun = Begun (held_bytes begun)
 kept_of (standing.Broken fault) begun = Broken fault
 kept_of standing.Spent begun = Begun []
 
+-- whether memory has lasted so far
 abbrev pub is_live : Standing → Bool
 is_live standing.Reading = true
 is_live (standing.Broken fault) = true
 is_live standing.Spent = false
 
+-- what contracts see
 abbrev pub view_of : Inside → ReaderView
 view_of r = record { limit = r.limit; kept = kept_of r.standing r.begun; live = is_live r.standing; done = r.done.items }
 
@@ -28,5 +30,6 @@ InOrder limit standing.Reading begun done = IsHeld limit begun × (done ≡ [])
 InOrder limit (standing.Broken fault) begun done = Unit {0}
 InOrder limit standing.Spent begun done = Unit {0}
 
+-- the same of the fields
 pub record IsInOrder (r : Inside) : Type 0 where
   pub order : InOrder r.limit r.standing r.begun r.done.items

@@ -8,6 +8,7 @@ use Rattle.rpc_frame.specs.declared.headers.Lengths.{Lengths}
 use Rattle.rpc_frame.specs.declared.headers.Lengths.TheVariants.{NoneYet, One, Several}
 use Rattle.rpc_frame.specs.declared.headers.Scan.{Scan}
 
+-- the name that gives a length, in lower case
 abbrev pub length_name : List ℕ
 length_name = codes "content-length"
 
@@ -21,6 +22,7 @@ name_place matched b =
 abbrev pub with_digit : ℕ → ℕ → ℕ
 with_digit n b = min (n * 10 + (b - 48)) (2 ^ 64 - 1)
 
+-- the place behind a byte
 abbrev pub place_after : Place → ℕ → Place
 place_after FirstLine b = name_place 0 b
 place_after NextLine b = if b == 13 then PartEnd else name_place 0 b
@@ -47,6 +49,7 @@ lengths_after (LengthDigits n) lengths b = if b == 13 then with_length lengths n
 lengths_after (LengthAfter n) lengths b = if b == 13 then with_length lengths n else lengths
 lengths_after place lengths b = lengths
 
+-- the scan behind a byte
 abbrev pub scan_after : Scan → ℕ → Scan
 scan_after scan b = record { place = place_after scan.place b; lengths = lengths_after scan.place scan.lengths b }
 
@@ -55,6 +58,7 @@ abbrev pub scan_over : Scan → List ℕ → Scan
 scan_over scan [] = scan
 scan_over scan (b ∷ bytes) = scan_over (scan_after scan b) bytes
 
+-- the scan before the first byte
 abbrev pub start : Scan
 start = record { place = FirstLine; lengths = NoneYet }
 

@@ -31,7 +31,7 @@ pub record IsFrame (limit : ℕ) (body frame : List ℕ) : Type 0 where
   pub begins : BeginsWithHeader frame (length body ∷ []) body
   pub within : length body ≤ limit
 
--- a frame begun: its header part, or the header part and fewer bytes of the body than it says
+-- a header part that gives one length, within the limit, and fewer bytes of the body than that
 pub record IsBodyBegun (limit : ℕ) (bytes : List ℕ) : Type 0 where
   pub number : ℕ
   pub body : List ℕ
@@ -39,6 +39,7 @@ pub record IsBodyBegun (limit : ℕ) (bytes : List ℕ) : Type 0 where
   pub within : number ≤ limit
   pub shorter : length body < number
 
+-- a frame begun, in its header part or in its body
 abbrev pub IsFrameBegun : ℕ → List ℕ → Type 0
 IsFrameBegun limit bytes = IsHeaderBegun bytes ⊎ IsBodyBegun limit bytes
 
@@ -54,6 +55,7 @@ pub data StreamEnd : Type 0 where
   Begun : (bytes : List ℕ) → StreamEnd
   Broken : (fault : FrameFault) → StreamEnd
 
+-- the bytes behind the whole frames are as the end says
 abbrev pub EndsAs : ℕ → StreamEnd → List ℕ → Type 0
 EndsAs limit (Begun bytes) rest = (rest ≡ bytes) × IsFrameBegun limit rest
 EndsAs limit (Broken fault) rest = HasFault limit fault rest

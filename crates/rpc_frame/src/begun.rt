@@ -94,11 +94,7 @@ impl FrameBegun {
         ensures fault { IfErr result (λ stop. stop ≡ Stop.Memory) }
     {
         let wanted = number - self.body.len() as u64;
-        let count = if wanted < rest.len() as u64 {
-            wanted as usize
-        } else {
-            rest.len()
-        };
+        let count = rest.len().min(wanted as usize);
         self.body.extend_from_slice(&rest[..count])?;
         Ok(count)
     }

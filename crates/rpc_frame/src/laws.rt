@@ -5,6 +5,11 @@ ghost use Rattle.rpc_frame.specs.ReaderView.{ReadsOn};
 ghost use Rattle.rpc_frame.specs.Written.{frame_bytes};
 ghost use Rattle.rpc_frame.specs.declared.faults.FrameFault.{FrameFault as Fault};
 
+/// Every stream has a reading: the bodies of its whole frames, and then a frame begun or the first fault.
+pub fn every_stream()
+    ensures { (limit : ℕ) (stream : List ℕ) → (bodies : List (List ℕ)) × (end : StreamEnd) × Reads limit stream bodies end }
+{}
+
 /// A stream has one reading: these bodies and this end, and no others.
 pub fn one_reading()
     ensures { (limit : ℕ) (stream : List ℕ) (bodies others : List (List ℕ)) (end other : StreamEnd)

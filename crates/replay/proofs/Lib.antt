@@ -1,0 +1,11 @@
+mod Fronts
+mod LineCuts
+mod Numbers
+mod Pieced
+mod Pieces
+mod Quotes
+mod RefusedPath
+mod Runs
+mod ScriptRows
+mod Statuses
+mod Writes

@@ -1,0 +1,10 @@
+-- Two scripts and what they print.
+use Rattle.std.proofs.Common.{◌≡◌, codes, refl}
+use Rattle.std.specs.Fmt.{digits}
+use Rattle.std.specs.Str.{is_utf8, chars}
+use Rattle.std.specs.Char.{encode_utf8}
+use Rattle.replay.specs.Script.{run_over}
+
+typed_and_settled : (run_over (codes "daemon 0\neditor 0 0 f \"abc\"\nsettle 0\ntype 0 1 1 \"X\"\nsettle 0\nshow 0\n")).printed ≡ codes "show 0 quiet \"aXc\"\n"
+unfolding digits is_utf8 chars encode_utf8
+typed_and_settled = refl

@@ -1,0 +1,18 @@
+use Rattle.std.proofs.Common.{ap, ◌∙◌, refl}
+use Rattle.outside.specs.Told.{with_back}
+use Rattle.replay.specs.Machine.{step}
+use Rattle.replay.specs.Grammar.{◌>>=◌}
+use Rattle.replay.proofs.player.play_line.Goals as goal
+
+pub returns-in-Whole : goal.returns-in-Whole
+returns-in-Whole g c =
+    let world = c.args.world.now in
+    record {
+      later = c.in-Whole.ensures.later;
+      so = (
+        _,
+        ap (λ moved. moved >>= step world) c.in-Ok.ensures.moved ∙ c.in-Ok-play.ensures.played,
+        refl,
+        c.in-Whole.ensures.so ∙ ap (with_back (g.K.Sink.meaning c.args.out.now).written) c.as_bytes.ensures.value,
+      );
+    }

@@ -1,0 +1,17 @@
+-- The parts of the format are those of the line.
+use Rattle.std.proofs.Common.{◌≡◌, List, ℕ, [], ◌∷◌, ◌++◌, codes, sym, append_assoc, ◌∙◌}
+use Rattle.std.proofs.lemmas.Result.{IfOk-weaker}
+use Rattle.std.specs.String.{string_bytes}
+use Rattle.replay.specs.Machine.{show_line}
+use Rattle.replay.proofs.world.write_show.Goals as goal
+
+regroup : (a b c d e f g h i : List ℕ) → a ++ b ++ c ++ d ++ e ++ (f ++ g ++ h) ++ i ≡ a ++ (b ++ (c ++ (d ++ (e ++ (f ++ (g ++ (h ++ i)))))))
+regroup a b c d e f g h i = simp append_assoc
+
+parts : (number word word' text text' : List ℕ) → word ≡ word' → text ≡ text' → codes "show " ++ (number ++ (codes " " ++ (word ++ (codes " \"" ++ (text ++ codes "\"\n"))))) ≡ codes "show " ++ number ++ codes " " ++ word' ++ codes " " ++ (34 ∷ (text' ++ 34 ∷ [])) ++ codes "\n"
+parts number word word' text text' same_word same_text =
+    rw (same_word, same_text) (sym (regroup (codes "show ") number (codes " ") word' (codes " ") (codes "\"") text' (codes "\"") (codes "\n")))
+
+pub returns : goal.returns
+returns c =
+    IfOk-weaker c.format.result _ (λ line. string_bytes line ≡ show_line c.args.number c.args.editor.now) (λ s h. h ∙ parts _ _ _ _ _ c.show_word-word.ensures c.in_ok-text.ensures) c.format.ensures.ok

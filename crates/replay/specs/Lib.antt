@@ -1,0 +1,5 @@
+pub mod Grammar
+pub mod Machine
+pub mod Script
+pub mod Ending
+pub mod Table

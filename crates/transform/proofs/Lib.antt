@@ -1,0 +1,6 @@
+pub mod CarriedLemmas
+pub mod WalkLemmas
+pub mod MergedLemmas
+pub mod GapLemmas
+pub mod ListLemmas
+pub mod Rows

@@ -1,0 +1,7 @@
+use Rattle.delta.specs.Cells.{base_length}
+use Rattle.transform.proofs.WalkLemmas.{editor_text_fits}
+use Rattle.transform.proofs.transforms.pass_editor_text.Goals as goal
+
+pub keep-requires : goal.keep-requires
+keep-requires c =
+    editor_text_fits c.args.side c.args.chars.now (base_length c.args.built.now) c.in-Daemon.is c.requires
