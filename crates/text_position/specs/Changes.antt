@@ -10,6 +10,7 @@ pub record Change : Type 0 where
   pub end : ℕ
   pub text : List ℕ
 
+-- a run with one more character in front, which ends the run where it is kept
 abbrev pub longer_unless : Bool → ℕ → ℕ
 longer_unless true run = 0
 longer_unless false run = suc run
@@ -19,6 +20,7 @@ abbrev pub deleted_run : List Cell → ℕ
 deleted_run [] = 0
 deleted_run (c ∷ cells) = longer_unless c.kept (deleted_run cells)
 
+-- the one change of a run of characters, if there is one
 abbrev pub change_if : Bool → ℕ → ℕ → List ℕ → List Change
 change_if true start size text = record { start = start; end = start + size; text = text } ∷ []
 change_if false start size text = []

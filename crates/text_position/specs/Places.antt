@@ -53,6 +53,7 @@ offset_in_line text character start =
 abbrev pub offset_at : List ℕ → Position → Option ℕ
 offset_at text p = option_and_then (offset_in_line text p.character) (line_start text p.line)
 
+-- the position behind one character, which ends its line or not
 abbrev pub position_behind_char : Bool → Position → Position
 position_behind_char true p = record { line = p.line + 1; character = 0 }
 position_behind_char false p = record { line = p.line; character = p.character + 1 }
@@ -62,6 +63,7 @@ abbrev pub position_behind : Position → List ℕ → Position
 position_behind p [] = p
 position_behind p (ch ∷ text) = position_behind (position_behind_char (is_line_end ch) p) text
 
+-- the position that every text begins with
 abbrev pub first_position : Position
 first_position = record { line = 0; character = 0 }
 

@@ -118,7 +118,8 @@ fn then_edit(
 ///
 /// The first edit with a start or an end that its text does not have is `BadPosition`, and one whose
 /// end is before its start `BackwardRange`, whichever edit comes first; each has the edit's index.
-/// `Memory` comes at any of them. One edit alone makes no copy of the text.
+/// `Memory` comes at any of them. One edit alone makes no copy of the text, and each further edit
+/// makes one.
 pub fn from_edits(alloc: Global, text: &Text, edits: &[TextEdit]) -> Result<Delta, EditsFault>
     ensures { Gives result (delta_of_edits text.now edits.now) }
 {

@@ -10,7 +10,7 @@ pub struct BadPosition;
 /// refused is told.
 #[derive(Clone, Copy, Debug, PartialEq, Eq, Error)]
 pub enum EditsFault {
-    /// The text that this edit is for has no position as its start, or none as its end.
+    /// The start or the end of this edit is no position of the text that the edits before it leave.
     #[error("edit {0} has a position that the text does not have")]
     BadPosition(usize),
     /// This edit ends before it starts.

@@ -1,10 +1,17 @@
 ghost use Rattle.std.specs.Prelude.{◌≡◌, ℕ, ◌+◌, ◌^◌, ◌<◌, ◌≤◌, length, IfOk, IfErr, IfSome};
 ghost use Rattle.std.specs.Result.{result_ok};
 ghost use Rattle.tt_base.specs.declared.edits.Position.{Position};
-ghost use Rattle.text_position.specs.Places.{IsPlace, line_start, line_length, offset_at, position_at, position_behind};
+ghost use Rattle.text_position.specs.Places.{IsPlace, is_line_end, line_start, line_length, offset_at, position_at, position_behind};
 
 use crate::faults::BadPosition;
 use tt_base::{Position, Text};
+
+/// Whether the character ends a line.
+fn is_line_end(ch: char) -> bool
+    ensures { result ≡ is_line_end ch }
+{
+    ch == '\n'
+}
 
 /// The number of characters before a line, where there are so many lines.
 fn line_start(chars: &[char], line: u64) -> Option<usize>
@@ -16,7 +23,7 @@ fn line_start(chars: &[char], line: u64) -> Option<usize>
         if left == 0 {
             return Some(i);
         }
-        if *ch == '\n' {
+        if is_line_end(*ch) {
             left -= 1;
         }
     }
@@ -29,7 +36,7 @@ fn line_length(chars: &[char]) -> usize
     ensures within { result ≤ length chars.now }
 {
     for (i, ch) in chars.iter().enumerate() {
-        if *ch == '\n' {
+        if is_line_end(*ch) {
             return i;
         }
     }
@@ -72,7 +79,7 @@ pub(crate) fn position_behind(from: Position, chars: &[char]) -> Position
 {
     let mut position = from;
     for ch in chars {
-        if *ch == '\n' {
+        if is_line_end(*ch) {
             position.line += 1;
             position.character = 0;
         } else {
