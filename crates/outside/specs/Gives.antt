@@ -6,13 +6,14 @@ use Rattle.outside.specs.SinkMeaning.{SinkMeaning}
 use Rattle.outside.specs.declared.sinks.Gave.{Gave}
 use Rattle.outside.specs.declared.sinks.Gave.TheVariants.{Bytes, Failed, Memory}
 
--- the front of the piece is appended, or nothing is
+-- the front of the piece is appended, or nothing is; the count of faults rises with a failed write, and with no other
 abbrev pub GaveSo : SinkMeaning → SinkMeaning → List ℕ → Gave → Type 0
 GaveSo old new piece (Bytes n) =
-    (0 < n) × (n ≤ length piece) × (new.written ≡ with_back old.written (take n piece))
+    (0 < n) × (n ≤ length piece) × (new.written ≡ with_back old.written (take n piece)) × (new.faults ≡ old.faults)
 GaveSo old new piece Failed = (new.written ≡ old.written) × Rose old.faults new.faults
-GaveSo old new piece Memory = new.written ≡ old.written
+GaveSo old new piece Memory = (new.written ≡ old.written) × (new.faults ≡ old.faults)
 
+-- what a write does, by its answer; the count of faults never falls
 pub record Gives (old new : SinkMeaning) (piece : List ℕ) (answer : Gave) : Type 0 where
   pub later : old.faults ≤ new.faults
   pub so : GaveSo old new piece answer

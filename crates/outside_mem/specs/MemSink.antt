@@ -4,12 +4,14 @@ use Rattle.outside.specs.declared.sinks.Gave.{Gave}
 use Rattle.outside.specs.declared.sinks.Gave.TheVariants.{Bytes, Failed, Memory}
 use Rattle.outside_mem.specs.Calls.{is_to_fail}
 
+-- what contracts see of a sink over memory that may fail; one that never fails is seen as its bytes
 pub record MemSinkView : Type 0 where
   pub written : List ℕ
   pub failing : List ℕ
   pub calls : ℕ
   pub faults : ℕ
 
+-- each tells its bytes; one that never fails counts no fault
 abbrev pub sure_sink : List ℕ → SinkMeaning
 sure_sink written = record { written = Some written; faults = 0 }
 

@@ -100,7 +100,7 @@ impl Sink for MemSink {
     ghost use Rattle.std.specs.Prelude.{◌≡◌, ◌<◌, length};
     ghost use Rattle.outside.specs.Gives.{Gives};
     ghost use Rattle.outside_mem.specs.MemSink.{mem_sink, IsMemWrite};
-    ghost use Rattle.outside_mem.specs.Calls.{counted};
+    ghost use Rattle.outside_mem.specs.Calls.{counted, faults_after};
 
     ghost meaning = { mem_sink };
 
@@ -110,6 +110,7 @@ impl Sink for MemSink {
         ensures answer { IsMemWrite self.old (length piece.now) result }
         ensures call { self.new.calls ≡ counted self.old.calls }
         ensures failing { self.new.failing ≡ self.old.failing }
+        ensures faults { self.new.faults ≡ faults_after self.old.failing self.old.calls self.old.faults }
     {
         self.calls = self.calls.saturating_add(1);
         if self.failing.as_slice().contains(&self.calls) {

@@ -108,7 +108,7 @@ impl Source for MemSource {
     ghost use Rattle.std.specs.Prelude.{◌≡◌, ◌<◌, length};
     ghost use Rattle.outside.specs.Takes.{Takes};
     ghost use Rattle.outside_mem.specs.MemSource.{mem_source, mem_read_of};
-    ghost use Rattle.outside_mem.specs.Calls.{counted};
+    ghost use Rattle.outside_mem.specs.Calls.{counted, faults_after};
 
     ghost meaning = { mem_source };
 
@@ -118,6 +118,7 @@ impl Source for MemSource {
         ensures answer { result ≡ mem_read_of self.old (length buf.old) }
         ensures call { self.new.calls ≡ counted self.old.calls }
         ensures failing { self.new.failing ≡ self.old.failing }
+        ensures faults { self.new.faults ≡ faults_after self.old.failing self.old.calls self.old.faults }
     {
         self.calls = self.calls.saturating_add(1);
         if self.failing.as_slice().contains(&self.calls) {

@@ -1,11 +1,11 @@
 -- What was written short of the whole output is a front of it.
-use Rattle.std.proofs.Common.{◌≡◌, ◌-◌, ℕ, ◌+◌, false, List, [], ◌∷◌, ◌++◌, length, take, fold, min, Option, Some, None, refl, sym, ap, ◌∙◌, append_assoc, arith}
+use Rattle.std.proofs.Common.{◌≡◌, ◌-◌, ◌≤◌, ◌<◌, ℕ, ◌+◌, false, List, [], ◌∷◌, ◌++◌, length, take, drop, fold, min, Option, Some, None, refl, sym, ap, ◌∙◌, append_assoc, arith}
 use Rattle.std.proofs.Math.Seq.{take-append-add}
-use Rattle.std.proofs.lemmas.List.{append-nil, take-append-le, take_min}
+use Rattle.std.proofs.lemmas.List.{append-nil, length-append, length-take, take-append-drop, take-append-le, take_min}
 use Rattle.std.proofs.lemmas.List.Sums.{fold-append}
 use Rattle.outside.specs.SinkMeaning.{SinkMeaning}
 use Rattle.replay.specs.Ending.{StopsShort, printed_next, printed_by}
-use Rattle.replay.specs.Machine.{Played}
+use Rattle.replay.specs.Machine.{WorldView, Played}
 use Rattle.replay.specs.Script.{Run, lines_of, next, moved_on, goes_on, line_played, not_started}
 use Rattle.replay.specs.Table.{IsFrontOf, IsShortOf, run_to}
 use Rattle.replay.proofs.Runs.{printed_later, line_counts}
@@ -24,6 +24,19 @@ front_clipped : (a b more : List ℕ) (n : ℕ) → a ++ take n b ≡ take (leng
 front_clipped a b more n =
     ap (λ t. a ++ t) (sym (take_min n b) ∙ sym (take-append-le (min n (length b)) b more (omega arith)))
     ∙ sym (take-append-add a (b ++ more) (min n (length b)))
+
+-- fewer lines print no more
+fewer_printed : (lines : List (List ℕ)) (n : ℕ) → length (fold next not_started (take n lines)).printed ≤ length (fold next not_started lines).printed
+fewer_printed lines n =
+    let later = printed_later (drop n lines) (fold next not_started (take n lines)) in
+    let whole : fold next not_started lines ≡ fold next (fold next not_started (take n lines)) (drop n lines) =
+    ap (fold next not_started) (sym (take-append-drop n lines)) ∙ fold-append next not_started (take n lines) (drop n lines) in
+    omega (
+      arith,
+      ap (λ r. length r.printed) whole,
+      ap length later.1,
+      length-append (fold next not_started (take n lines)).printed later.0,
+    )
 
 module _ (lines done : List (List ℕ)) (k k' : SinkMeaning) (stops : StopsShort not_started lines done k k') where
   abbrev run : Run
@@ -60,15 +73,47 @@ module _ (lines done : List (List ℕ)) (k k' : SinkMeaning) (stops : StopsShort
       ∙ ap (fold next not_started) (take-append-add done stops.left n)
       ∙ fold-append next not_started done (take n stops.left)
 
-  pub is_short : (bytes : List ℕ) (line : ℕ) → (lines_of bytes).whole ≡ lines → line ≡ run.line + 1 → IsShortOf bytes written_front line
+  next_line : (bytes : List ℕ) (line : ℕ) → (lines_of bytes).whole ≡ lines → line ≡ run.line + min 1 (length stops.left) → run_to line bytes ≡ fold next run (take 1 stops.left)
+  next_line bytes line same_lines last =
+      ap (λ l. fold next not_started (take line l)) same_lines
+      ∙ ap (λ n. fold next not_started (take n lines)) (last ∙ ap (λ n. n + min 1 (length stops.left)) done_counts)
+      ∙ run_at (min 1 (length stops.left))
+      ∙ ap (fold next run) (take_min 1 stops.left)
+
+  line_prints : (bytes : List ℕ) (line : ℕ) → (lines_of bytes).whole ≡ lines → line ≡ run.line + min 1 (length stops.left) → (run_to line bytes).printed ≡ run.printed ++ printed_next run.world stops.left
+  line_prints bytes line same_lines last = ap (λ r. r.printed) (next_line bytes line same_lines last) ∙ printed_at_next run stops.left stops.going
+
+  pub is_short : (bytes : List ℕ) (line : ℕ) → (lines_of bytes).whole ≡ lines → line ≡ run.line + min 1 (length stops.left) → IsShortOf bytes written_front line
   is_short bytes line same_lines last =
       let shown = printed_next run.world stops.left in
-      let at_line : run_to line bytes ≡ fold next run (take 1 stops.left) = ap (λ l. fold next not_started (take line l)) same_lines ∙ ap (λ n. fold next not_started (take n lines)) (last ∙ ap (λ n. n + 1) done_counts) ∙ run_at 1 in
-      let before : run_to (line - 1) bytes ≡ run = ap (λ l. fold next not_started (take (line - 1) l)) same_lines ∙ ap (λ n. fold next not_started (take n lines)) (omega (arith, last, done_counts)) ∙ run_at 0 in
+      let earlier : take (line - 1) lines ≡ take (line - 1) done = ap (take (line - 1)) stops.lines_are ∙ take-append-le (line - 1) done stops.left (omega (arith, last, done_counts)) in
       record {
+        begun = omega (arith, last, done_counts, ap length same_lines, ap length stops.lines_are, length-append done stops.left);
         count = length run.printed + stops.count;
         front =
             sym (take-append-add run.printed shown stops.count)
-            ∙ ap (take (length run.printed + stops.count)) (sym (ap (λ r. r.printed) at_line ∙ printed_at_next run stops.left stops.going));
-        enough = omega (arith, ap (λ r. length r.printed) before);
+            ∙ ap (take (length run.printed + stops.count)) (sym (line_prints bytes line same_lines last));
+        enough =
+            omega (
+              arith,
+              ap (λ l. length (fold next not_started (take (line - 1) l)).printed) same_lines,
+              ap (λ l. length (fold next not_started l).printed) earlier,
+              fewer_printed done (line - 1),
+            );
       }
+
+  pub is_cut : (bytes : List ℕ) (line : ℕ) → (lines_of bytes).whole ≡ lines → line ≡ run.line + min 1 (length stops.left) → stops.count < length (printed_next run.world stops.left) → length written_front < length (run_to line bytes).printed
+  is_cut bytes line same_lines last short =
+      let shown = printed_next run.world stops.left in
+      omega (
+        arith,
+        ap length (line_prints bytes line same_lines last),
+        length-append run.printed shown,
+        length-append run.printed (take stops.count shown),
+        length-take stops.count shown,
+      )
+
+-- where the next line prints something, there is one
+pub next_is_there : (world : WorldView) (left : List (List ℕ)) (n : ℕ) → n < length (printed_next world left) → min 1 (length left) ≡ 1
+next_is_there world [] n h = absurd (omega arith)
+next_is_there world (line ∷ left) n h = omega arith

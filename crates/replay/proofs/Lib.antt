@@ -3,6 +3,7 @@ mod LineCuts
 mod Numbers
 mod Pieced
 mod Pieces
+mod QuietEditors
 mod Quotes
 mod RefusedPath
 mod Runs

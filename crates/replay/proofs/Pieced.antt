@@ -1,5 +1,5 @@
 -- The loop over the pieces of a script: where it stands, and what each of its ends says of the bytes taken.
-use Rattle.std.proofs.Common.{◌≡◌, ◌≤◌, ℕ, ◌+◌, true, false, List, [], ◌++◌, length, take, fold, inl, refl, sym, ap, ◌∙◌, append_assoc, arith}
+use Rattle.std.proofs.Common.{◌≡◌, ◌≤◌, ℕ, ◌+◌, true, false, List, [], ◌++◌, length, take, fold, min, inl, refl, sym, ap, ◌∙◌, append_assoc, arith}
 use Rattle.std.proofs.lemmas.List.{append-nil, length-append, length-take-le}
 use Rattle.std.proofs.lemmas.List.Sums.{fold-append}
 use Rattle.std.specs.List.{list_all}
@@ -11,6 +11,7 @@ use Rattle.outside.specs.Told.{with_back, with_front}
 use Rattle.outside.specs.declared.sources.Took.TheVariants as Took
 use Rattle.replay.specs.Ending.{run_of, GaveBytes, WroteOutput, StopsShort, PlaysPiece, EndsSource, ending_of, printed_next}
 use Rattle.replay.specs.declared.player.Playing.{Playing}
+use Rattle.replay.specs.declared.playing.Ending.TheVariants as Ending
 use Rattle.replay.specs.Machine.{beginning}
 use Rattle.replay.specs.Script.{Run, Lines, lines_of, next, not_started, run_over, is_inner, most_bytes}
 use Rattle.replay.specs.declared.player.Player.{Player}
@@ -19,8 +20,8 @@ use Rattle.replay.proofs.Runs.{ahead, fold-ahead}
 
 -- so many bytes were taken, and all lines that end in them were played and their output written
 pub record TakenTo (s s' : SourceMeaning) (k k' : SinkMeaning) (player : Player) (count : ℕ) : Type 0 where
-  pub source_later : s.faults ≤ s'.faults
-  pub sink_later : k.faults ≤ k'.faults
+  pub source_same : s'.faults ≡ s.faults
+  pub sink_same : k'.faults ≡ k.faults
   pub bytes : List ℕ
   pub count_is : length bytes ≡ count
   pub gave : GaveBytes s s' bytes
@@ -36,8 +37,8 @@ pub record TakenTo (s s' : SourceMeaning) (k k' : SinkMeaning) (player : Player)
 pub nothing_taken : (s : SourceMeaning) (k : SinkMeaning) (player : Player) → player.world ≡ beginning → player.pending.items ≡ [] → player.line ≡ 0 → TakenTo s s k k player 0
 nothing_taken s k player world pending line =
     record {
-      source_later = omega arith;
-      sink_later = omega arith;
+      source_same = refl;
+      sink_same = refl;
       bytes = [];
       count_is = refl;
       gave = sym (with_front_nothing s.left);
@@ -89,6 +90,9 @@ module _ (s s' s'' : SourceMeaning) (k k' : SinkMeaning) (player : Player) (coun
   gave : GaveBytes s s'' taken
   gave = to.gave ∙ ap (with_front to.bytes) takes.so.2 ∙ with_front_more s''.left to.bytes piece
 
+  few : count + n ≤ most_bytes → length taken ≤ most_bytes
+  few within = omega (arith, length-append to.bytes piece, to.count_is, length-take-le n buf takes.so.1)
+
   output : (k'' : SinkMeaning) → k''.written ≡ with_back k'.written (fold next (run_of player) lines.whole).printed → WroteOutput k k'' taken
   output k'' wrote =
       wrote
@@ -100,8 +104,8 @@ module _ (s s' s'' : SourceMeaning) (k k' : SinkMeaning) (player : Player) (coun
   pieced_on player' k'' plays within =
       let same = length-take-le n buf takes.so.1 in
       record {
-        source_later = omega (arith, to.source_later, takes.later);
-        sink_later = omega (arith, to.sink_later, plays.later);
+        source_same = takes.so.4 ∙ to.source_same;
+        sink_same = plays.kept (λ failed. cc) ∙ to.sink_same;
         bytes = taken;
         count_is = omega (arith, length-append to.bytes piece, to.count_is, same);
         gave = gave;
@@ -115,7 +119,7 @@ module _ (s s' s'' : SourceMeaning) (k k' : SinkMeaning) (player : Player) (coun
         within = within;
       }
 
-  stops_short : (k'' : SinkMeaning) (done : List (List ℕ)) → StopsShort (run_of player) lines.whole done k' k'' → StopsShort not_started (lines_of taken).whole ((lines_of to.bytes).whole ++ done) k k''
+  abbrev stops_short : (k'' : SinkMeaning) (done : List (List ℕ)) → StopsShort (run_of player) lines.whole done k' k'' → StopsShort not_started (lines_of taken).whole ((lines_of to.bytes).whole ++ done) k k''
   stops_short k'' done stops =
       let here = fold next (run_of player) done in
       let front = take stops.count (printed_next here.world stops.left) in
@@ -133,42 +137,68 @@ module _ (s s' s'' : SourceMeaning) (k k' : SinkMeaning) (player : Player) (coun
             ∙ ap (λ run. with_back k.written (run.printed ++ take stops.count (printed_next run.world stops.left))) (sym (run_after done));
       }
 
-  pub piece_stops : (player' : Player) (k'' : SinkMeaning) (playing : Playing) → (playing ≡ Playing.Whole → ⊥) → PlaysPiece player player' k' k'' piece playing → EndsSource s s'' k k'' (record { ending = ending_of playing; line = player'.line })
-  piece_stops player' k'' Playing.Whole not_whole plays = absurd (not_whole refl)
-  piece_stops player' k'' Playing.Refused not_whole plays =
+  -- what each ending of a piece says of the counts and of how much was taken
+  pub piece_stops : (player' : Player) (k'' : SinkMeaning) (playing : Playing) → (playing ≡ Playing.Whole → ⊥) → PlaysPiece player player' k' k'' piece playing → count + n ≤ most_bytes → EndsSource s s'' k k'' (record { ending = ending_of playing; line = player'.line })
+  piece_stops player' k'' Playing.Whole not_whole plays within = absurd (not_whole refl)
+  piece_stops player' k'' Playing.Refused not_whole plays within =
       record {
         taken = taken;
         gave = gave;
+        few = few within;
+        source_kept = λ _. takes.so.4 ∙ to.source_same;
+        sink_kept = λ _. plays.kept (λ failed. cc) ∙ to.sink_same;
         so = (
           inl (ap (λ run. run.stuck) run_is ∙ plays.so.0, takes.so.3 ∙ to.ended),
           plays.so.1 ∙ ap (λ run. run.line + 1) (sym run_is),
           output k'' plays.so.2,
         );
       }
-  piece_stops player' k'' Playing.SinkFailed not_whole plays =
+  piece_stops player' k'' Playing.SinkFailed not_whole plays within =
       let done = plays.so.0 in
       record {
         taken = taken;
         gave = gave;
+        few = few within;
+        source_kept = λ _. takes.so.4 ∙ to.source_same;
+        sink_kept = λ not_failed. absurd (not_failed refl);
         so = (
           (lines_of to.bytes).whole ++ done,
           stops_short k'' done plays.so.1,
-          plays.so.2 ∙ ap (λ run. run.line + 1) (sym (run_after done)),
-          omega (arith, to.sink_later, plays.so.3),
+          omega (arith, plays.so.2, ap (λ run. length (printed_next run.world plays.so.1.left)) (run_after done)),
+          plays.so.3 ∙ ap (λ run. run.line + 1) (sym (run_after done)),
+          omega (arith, to.sink_same, plays.so.4),
           takes.so.3 ∙ to.ended,
         );
       }
-  piece_stops player' k'' Playing.Memory not_whole plays =
+  piece_stops player' k'' Playing.Memory not_whole plays within =
       let done = plays.so.0 in
-      let same = ap (λ run. run.line) (run_after done) in
       record {
         taken = taken;
         gave = gave;
+        few = few within;
+        source_kept = λ _. takes.so.4 ∙ to.source_same;
+        sink_kept = λ _. plays.kept (λ failed. cc) ∙ to.sink_same;
         so = (
           (lines_of to.bytes).whole ++ done,
           stops_short k'' done plays.so.1,
-          omega (arith, same, plays.so.2),
-          omega (arith, same, plays.so.3),
+          plays.so.2 ∙ ap (λ run. run.line + min 1 (length plays.so.1.left)) (sym (run_after done)),
           takes.so.3 ∙ to.ended,
         );
       }
+
+-- memory ran out before anything was taken
+pub nothing_begun : (s : SourceMeaning) (k : SinkMeaning) → EndsSource s s k k (record { ending = Ending.Memory; line = 0 })
+nothing_begun s k =
+    record {
+      taken = [];
+      gave = sym (with_front_nothing s.left);
+      few = omega arith;
+      source_kept = λ _. refl;
+      sink_kept = λ _. refl;
+      so = (
+        [],
+        record { left = []; lines_are = refl; going = refl; count = 0; written = sym (with_back_nothing k.written) },
+        refl,
+        refl,
+      );
+    }

@@ -20,7 +20,7 @@ lines_from player piece = lines_of (player.pending.items ++ piece)
 
 -- the lines `done` of the piece were played and their output written; the rest is still to come
 pub record PlayedTo (first player : Player) (before now : SinkMeaning) (piece rest : List ℕ) : Type 0 where
-  pub later : before.faults ≤ now.faults
+  pub same : now.faults ≡ before.faults
   pub done : List (List ℕ)
   pub whole : (lines_from first piece).whole ≡ done ++ (lines_from player rest).whole
   pub behind : (lines_from first piece).rest ≡ (lines_from player rest).rest
@@ -34,7 +34,7 @@ pub record PlayedTo (first player : Player) (before now : SinkMeaning) (piece re
 pub nothing_played : (first : Player) (m : SinkMeaning) (piece : List ℕ) → list_all is_inner first.pending.items ≡ true → PlayedTo first first m m piece piece
 nothing_played first m piece inner =
     record {
-      later = omega arith;
+      same = refl;
       done = [];
       whole = refl;
       behind = refl;
@@ -82,7 +82,7 @@ module _ (first player : Player) (before now : SinkMeaning) (piece rest line aft
       let played = plays.so.0 in
       let further = run_further (Some played) plays.so.1 in
       record {
-        later = omega arith;
+        same = plays.kept (λ failed. cc) ∙ to.same;
         done = to.done ++ begun ∷ [];
         whole =
             whole_is ∙ sym (append_assoc to.done (begun ∷ []) (lines_of after).whole)
@@ -99,8 +99,12 @@ module _ (first player : Player) (before now : SinkMeaning) (piece rest line aft
         fits = omega (arith, ap length ends.cut, length-append line (10 ∷ after));
       }
 
+  -- what the line prints, in the world of the machine
+  printed_here : printed_by (line_played player.world begun) ≡ printed_by (line_played run.world begun)
+  printed_here = ap (λ w. printed_by (line_played w begun)) to.world
+
   -- of the line's output a front was written
-  front_written : (new : SinkMeaning) → WroteFront now new (printed_by (line_played player.world begun)) → StopsShort (run_of first) (lines_from first piece).whole to.done before new
+  abbrev front_written : (new : SinkMeaning) → WroteFront now new (printed_by (line_played player.world begun)) → StopsShort (run_of first) (lines_from first piece).whole to.done before new
   front_written new wrote =
       let front = take wrote.0 (printed_by (line_played player.world begun)) in
       record {
@@ -127,7 +131,8 @@ module _ (first player : Player) (before now : SinkMeaning) (piece rest line aft
   piece_ended player' new Playing.Refused not_whole plays line_is =
       let end = stopped plays.so.0 in
       record {
-        later = omega arith;
+        later = omega (arith, plays.later, to.same);
+        kept = λ not_failed. plays.kept not_failed ∙ to.same;
         few_lines = omega (arith, ap length ends.cut, length-append line (10 ∷ after), to.fits);
         so = (
           ap (λ r. r.stuck) end,
@@ -137,15 +142,33 @@ module _ (first player : Player) (before now : SinkMeaning) (piece rest line aft
       }
   piece_ended player' new Playing.SinkFailed not_whole plays line_is =
       record {
-        later = omega arith;
+        later = omega (arith, plays.later, to.same);
+        kept = λ not_failed. absurd (not_failed refl);
         few_lines = omega (arith, ap length ends.cut, length-append line (10 ∷ after), to.fits);
-        so = (to.done, front_written new plays.so.0, line_is ∙ ap (λ n. n + 1) to.line, omega (arith, plays.so.1));
+        so = (
+          to.done,
+          front_written new (plays.so.0.0, plays.so.0.2),
+          omega (arith, plays.so.0.1, ap length printed_here),
+          line_is ∙ ap (λ n. n + 1) to.line,
+          omega (arith, plays.so.1, to.same),
+        );
       }
   piece_ended player' new Playing.Memory not_whole plays line_is =
       record {
-        later = omega arith;
+        later = omega (arith, plays.later, to.same);
+        kept = λ not_failed. plays.kept not_failed ∙ to.same;
         few_lines = omega (arith, ap length ends.cut, length-append line (10 ∷ after), to.fits);
-        so = (to.done, front_written new plays.so, omega arith, omega arith);
+        so = (to.done, front_written new plays.so, omega (arith, line_is, to.line));
+      }
+
+  -- memory ran out before the line was played
+  pub line_not_kept : (player' : Player) → player'.line ≡ player.line + 1 → PlaysPiece first player' before now piece Playing.Memory
+  line_not_kept player' line_is =
+      record {
+        later = omega (arith, to.same);
+        kept = λ _. to.same;
+        few_lines = omega (arith, ap length ends.cut, length-append line (10 ∷ after), to.fits);
+        so = (to.done, front_written now (0, sym (with_back_nothing now.written)), omega (arith, line_is, to.line));
       }
 
 -- no line ends in the rest
@@ -155,7 +178,8 @@ piece_begun first player player' before now piece rest to inner same_world kept 
     let whole : (lines_from first piece).whole ≡ to.done = to.whole ∙ ap (λ l. to.done ++ l.whole) begun ∙ append-nil to.done in
     let run : fold next (run_of first) (lines_from first piece).whole ≡ fold next (run_of first) to.done = ap (fold next (run_of first)) whole in
     record {
-      later = to.later;
+      later = omega (arith, to.same);
+      kept = λ _. to.same;
       few_lines = omega arith;
       so = (
         ap (λ r. r.stuck) run ∙ to.going,
@@ -163,5 +187,27 @@ piece_begun first player player' before now piece rest to inner same_world kept 
         kept ∙ sym (to.behind ∙ ap (λ l. l.rest) begun),
         same_line ∙ to.line ∙ sym (ap (λ r. r.line) run),
         to.written ∙ ap (with_back before.written) (sym (ap (λ r. r.printed) run)),
+      );
+    }
+
+-- memory ran out for the bytes behind the last LF
+pub rest_not_kept : (first player player' : Player) (before now : SinkMeaning) (piece rest : List ℕ) → PlayedTo first player before now piece rest → list_all is_inner rest ≡ true → player'.line ≡ player.line → PlaysPiece first player' before now piece Playing.Memory
+rest_not_kept first player player' before now piece rest to inner same_line =
+    let begun : lines_from player rest ≡ record { whole = []; rest = player.pending.items ++ rest } = line_begun (player.pending.items ++ rest) (inner_append player.pending.items rest to.inner inner) in
+    let run = fold next (run_of first) to.done in
+    record {
+      later = omega (arith, to.same);
+      kept = λ _. to.same;
+      few_lines = omega arith;
+      so = (
+        to.done,
+        record {
+          left = [];
+          lines_are = to.whole ∙ ap (λ l. to.done ++ l.whole) begun;
+          going = to.going;
+          count = 0;
+          written = to.written ∙ ap (with_back before.written) (sym (append-nil run.printed));
+        },
+        omega (arith, same_line, to.line),
       );
     }

@@ -1,17 +1,17 @@
 -- What each status says, by the ending that it stands for.
-use Rattle.std.proofs.Common.{◌≡◌, ◌≢◌, ◌⊎◌, ◌≤◌, ◌<◌, ℕ, ◌+◌, true, false, List, [], ◌++◌, length, fold, Option, Some, None, IfSome, inl, inr, refl, sym, ap, ◌∙◌, subst, arith}
+use Rattle.std.proofs.Common.{◌≡◌, ◌≢◌, ◌⊎◌, ◌≤◌, ◌<◌, ℕ, ◌+◌, true, false, List, [], ◌++◌, length, fold, min, Option, Some, None, IfSome, inl, inr, refl, sym, ap, ◌∙◌, subst, arith}
 use Rattle.std.proofs.lemmas.List.{append-nil, append_cancel_left, append_cancel_right, length-append}
 use Rattle.std.proofs.lemmas.List.Sums.{fold-append}
 use Rattle.outside.specs.Faults.{Rose}
 use Rattle.outside.specs.SinkMeaning.{SinkMeaning}
 use Rattle.outside.specs.SourceMeaning.{SourceMeaning}
 use Rattle.outside.specs.Told.{with_back, with_front}
-use Rattle.replay.specs.Ending.{GaveBytes, WroteOutput, StopsShort, EndsSource, EndedSo, HasEnded, GoesOn, IsRefused}
+use Rattle.replay.specs.Ending.{GaveBytes, WroteOutput, StopsShort, EndsSource, EndedSo, IsRefused}
 use Rattle.replay.specs.Script.{lines_of, next, not_started, run_over, most_bytes}
-use Rattle.replay.specs.Table.{status_of, WasGiven, WasWritten, IsPlayable, IsPlayedTo, IsRefusedAt, IsCutOff, IsShortOf, IsFrontOf}
+use Rattle.replay.specs.Table.{status_of, HasEnded, GoesOn, WasGiven, WasWritten, IsPlayable, IsPlayedTo, IsRefusedAt, IsCutOff, IsShortOf, IsFrontOf, run_to}
 use Rattle.replay.specs.declared.playing.Ended.{Ended}
 use Rattle.replay.specs.declared.playing.Ending.{Ending}
-use Rattle.replay.proofs.Fronts.{is_front, is_short}
+use Rattle.replay.proofs.Fronts.{written_front, is_front, is_short, is_cut, next_is_there}
 use Rattle.replay.proofs.LineCuts.{lines_more}
 use Rattle.replay.proofs.Runs.{stuck_later}
 
@@ -32,6 +32,10 @@ all_of None taken all gave none = cc
 all_of (Some l) taken all gave none =
     let same : taken ++ l ≡ all = cc in
     sym (append-nil taken) ∙ ap (λ rest. taken ++ rest) (sym none) ∙ same
+
+left_of : (left : Option (List ℕ)) (taken all : List ℕ) → with_front taken left ≡ Some all → (l : List ℕ) × (left ≡ Some l)
+left_of None taken all gave = cc
+left_of (Some l) taken all gave = (l, refl)
 
 -- where nothing is left, all was taken
 all_taken : (s s' : SourceMeaning) (taken all : List ℕ) → GaveBytes s s' taken → HasEnded s' → s.left ≡ Some all → taken ≡ all
@@ -69,6 +73,14 @@ is_sink_failed Ending.SinkFailed h = refl
 is_sink_failed Ending.Memory h = cc
 is_sink_failed Ending.TooLong h = cc
 
+is_memory : (ending : Ending) → status_of ending ≡ 6 → ending ≡ Ending.Memory
+is_memory Ending.Finished h = cc
+is_memory Ending.Refused h = cc
+is_memory Ending.SourceFailed h = cc
+is_memory Ending.SinkFailed h = cc
+is_memory Ending.Memory h = refl
+is_memory Ending.TooLong h = cc
+
 is_too_long : (ending : Ending) → status_of ending ≡ 7 → ending ≡ Ending.TooLong
 is_too_long Ending.Finished h = cc
 is_too_long Ending.Refused h = cc
@@ -97,21 +109,21 @@ module _ (s s' : SourceMeaning) (k k' : SinkMeaning) (ended : Ended) (ends : End
       so.3 ∙ ap (λ w. with_back w (run_over ends.taken).printed) wrote
       ∙ ap (λ bytes. Some (front ++ (run_over bytes).printed)) (all_taken s s' ends.taken all ends.gave so.4 told)
 
-  refused_so : (line : ℕ) → IsRefused s ends.taken s' → line ≡ (run_over ends.taken).line + 1 → IsRefusedAt ends.taken line ⊎ (IsCutOff ends.taken line × HasEnded s')
-  refused_so line (inl stuck) first = inl (record { stuck = stuck.0; first = first })
+  refused_so : (line : ℕ) → IsRefused s ends.taken s' → line ≡ (run_over ends.taken).line + 1 → (IsRefusedAt ends.taken line × GoesOn s s') ⊎ (IsCutOff ends.taken line × HasEnded s')
+  refused_so line (inl stuck) first = inl (record { stuck = stuck.0; first = first }, stuck.1)
   refused_so line (inr cut) first = inr (record { going = cut.0; behind = cut.1; first = first }, cut.2)
 
-  pub refused_line : status_of ended.ending ≡ 2 → (bytes : List ℕ) → WasGiven s s' bytes → IsRefusedAt bytes ended.line ⊎ (IsCutOff bytes ended.line × HasEnded s')
+  pub refused_line : status_of ended.ending ≡ 2 → (bytes : List ℕ) → WasGiven s s' bytes → (IsRefusedAt bytes ended.line × GoesOn s s') ⊎ (IsCutOff bytes ended.line × HasEnded s')
   refused_line two bytes given =
       let so = at_ending Ending.Refused (is_refused _ two) in
-      let Holds : List ℕ → Type 0 = λ b. IsRefusedAt b ended.line ⊎ (IsCutOff b ended.line × HasEnded s') in
+      let Holds : List ℕ → Type 0 = λ b. (IsRefusedAt b ended.line × GoesOn s s') ⊎ (IsCutOff b ended.line × HasEnded s') in
       subst Holds (given_is s s' ends.taken bytes ends.gave given) (refused_so ended.line so.0 so.1)
 
   pub source_rose : status_of ended.ending ≡ 4 → Rose s.faults s'.faults
   source_rose four = (at_ending Ending.SourceFailed (is_source_failed _ four)).3
 
   pub sink_rose : status_of ended.ending ≡ 5 → Rose k.faults k'.faults
-  sink_rose five = (at_ending Ending.SinkFailed (is_sink_failed _ five)).3
+  sink_rose five = (at_ending Ending.SinkFailed (is_sink_failed _ five)).4
 
   pub failed_after : status_of ended.ending ≡ 4 → (bytes : List ℕ) → WasGiven s s' bytes → IsPlayedTo bytes ended.line
   failed_after four bytes given =
@@ -128,8 +140,57 @@ module _ (s s' : SourceMeaning) (k k' : SinkMeaning) (ended : Ended) (ends : End
       let so = at_ending Ending.TooLong (is_too_long _ seven) in
       subst (λ b. length b ≡ most_bytes) (given_is s s' ends.taken bytes ends.gave given) so.3
 
-  pub too_long_goes_on : status_of ended.ending ≡ 7 → GoesOn s s'
-  too_long_goes_on seven = (at_ending Ending.TooLong (is_too_long _ seven)).4
+  goes_so : (ending : Ending) → EndedSo s s' k k' ends.taken ending ended.line → (status_of ending ≡ 0 → ⊥) → (status_of ending ≡ 2 → ⊥) → GoesOn s s'
+  goes_so Ending.Finished so not_none not_two = absurd (not_none refl)
+  goes_so Ending.Refused so not_none not_two = absurd (not_two refl)
+  goes_so Ending.SourceFailed so not_none not_two = so.4
+  goes_so Ending.SinkFailed so not_none not_two = so.5
+  goes_so Ending.Memory so not_none not_two = so.3
+  goes_so Ending.TooLong so not_none not_two = so.4
+
+  pub source_goes_on : (status_of ended.ending ≡ 0 → ⊥) → (status_of ended.ending ≡ 2 → ⊥) → GoesOn s s'
+  source_goes_on not_none not_two = goes_so ended.ending ends.so not_none not_two
+
+  pub source_is_kept : (status_of ended.ending ≡ 4 → ⊥) → s'.faults ≡ s.faults
+  source_is_kept not_four = ends.source_kept (λ failed. not_four (ap status_of failed))
+
+  pub sink_is_kept : (status_of ended.ending ≡ 5 → ⊥) → k'.faults ≡ k.faults
+  sink_is_kept not_five = ends.sink_kept (λ failed. not_five (ap status_of failed))
+
+  -- where the source tells what it has left, it tells what it gave
+  pub bytes_given : (all : List ℕ) → s.left ≡ Some all → (bytes : List ℕ) × WasGiven s s' bytes
+  bytes_given all told =
+      let rest = left_of s'.left ends.taken all (sym ends.gave ∙ told) in
+      (ends.taken, record { left = rest.0; before = ends.gave ∙ ap (with_front ends.taken) rest.1; after = rest.1 })
+
+  out_so : (ending : Ending) → EndedSo s s' k k' ends.taken ending ended.line → (out : List ℕ) × (k'.written ≡ with_back k.written out)
+  out_so Ending.Finished so = ((run_over ends.taken).printed, so.3)
+  out_so Ending.Refused so = ((run_over ends.taken).printed, so.2)
+  out_so Ending.SourceFailed so = ((run_over ends.taken).printed, so.2)
+  out_so Ending.SinkFailed so = (written_front (lines_of ends.taken).whole so.0 k k' so.1, so.1.written)
+  out_so Ending.Memory so = (written_front (lines_of ends.taken).whole so.0 k k' so.1, so.1.written)
+  out_so Ending.TooLong so = ((run_over ends.taken).printed, so.2)
+
+  -- where the sink tells what was written, it tells what it took
+  pub bytes_written : (front : List ℕ) → k.written ≡ Some front → (bytes : List ℕ) × WasWritten k k' bytes
+  bytes_written front told =
+      let out = out_so ended.ending ends.so in
+      (out.0, record { front = front; before = told; after = out.1 ∙ ap (λ w. with_back w out.0) told })
+
+  pub bytes_are_few : (bytes : List ℕ) → WasGiven s s' bytes → length bytes ≤ most_bytes
+  bytes_are_few bytes given = subst (λ b. length b ≤ most_bytes) (given_is s s' ends.taken bytes ends.gave given) ends.few
+
+  room_so : (ending : Ending) → EndedSo s s' k k' ends.taken ending ended.line → (status_of ending ≡ 0) ⊎ (status_of ending ≡ 4) → length ends.taken < most_bytes
+  room_so Ending.Finished so which = so.5
+  room_so Ending.Refused so which = elim which [ inl h ↦ cc | inr h ↦ cc ]
+  room_so Ending.SourceFailed so which = so.5
+  room_so Ending.SinkFailed so which = elim which [ inl h ↦ cc | inr h ↦ cc ]
+  room_so Ending.Memory so which = elim which [ inl h ↦ cc | inr h ↦ cc ]
+  room_so Ending.TooLong so which = elim which [ inl h ↦ cc | inr h ↦ cc ]
+
+  pub room_was_left : (status_of ended.ending ≡ 0) ⊎ (status_of ended.ending ≡ 4) → (bytes : List ℕ) → WasGiven s s' bytes → length bytes < most_bytes
+  room_was_left which bytes given =
+      subst (λ b. length b < most_bytes) (given_is s s' ends.taken bytes ends.gave given) (room_so ended.ending ends.so which)
 
   wrote_so : (ending : Ending) → EndedSo s s' k k' ends.taken ending ended.line → (status_of ending ≡ 5 → ⊥) → (status_of ending ≡ 6 → ⊥) → WroteOutput k k' ends.taken
   wrote_so Ending.Finished so not_five not_six = so.3
@@ -160,8 +221,8 @@ module _ (s s' : SourceMeaning) (k k' : SinkMeaning) (ended : Ended) (ends : End
   cut_so Ending.Finished so before after behind = absurd (behind so.1)
   cut_so Ending.Refused so before after behind = refl
   cut_so Ending.SourceFailed so before after behind = let bad : true ≡ false = sym after ∙ so.4 ∙ before in cc
-  cut_so Ending.SinkFailed so before after behind = let bad : true ≡ false = sym after ∙ so.4 ∙ before in cc
-  cut_so Ending.Memory so before after behind = let bad : true ≡ false = sym after ∙ so.4 ∙ before in cc
+  cut_so Ending.SinkFailed so before after behind = let bad : true ≡ false = sym after ∙ so.5 ∙ before in cc
+  cut_so Ending.Memory so before after behind = let bad : true ≡ false = sym after ∙ so.3 ∙ before in cc
   cut_so Ending.TooLong so before after behind = let bad : true ≡ false = sym after ∙ so.4 ∙ before in cc
 
   pub cut_off_is_refused : (bytes : List ℕ) → WasGiven s s' bytes → s.ended ≡ false → s'.ended ≡ true → (lines_of bytes).rest ≢ [] → status_of ended.ending ≡ 2
@@ -180,12 +241,24 @@ module _ (s s' : SourceMeaning) (k k' : SinkMeaning) (ended : Ended) (ends : End
   full_is_too_long bytes given full =
       full_so ended.ending ends.so (ap length (given_is s s' ends.taken bytes ends.gave given) ∙ full)
 
-  pub sink_failed_short : status_of ended.ending ≡ 5 → (bytes written : List ℕ) → WasGiven s s' bytes → WasWritten k k' written → IsShortOf bytes written ended.line
+  pub sink_failed_short : status_of ended.ending ≡ 5 → (bytes written : List ℕ) → WasGiven s s' bytes → WasWritten k k' written → IsShortOf bytes written ended.line × (length written < length (run_to ended.line bytes).printed)
   sink_failed_short five bytes written given told =
       let so = at_ending Ending.SinkFailed (is_sink_failed _ five) in
-      let short = is_short (lines_of ends.taken).whole so.0 k k' so.1 ends.taken ended.line refl so.2 in
+      let lines = (lines_of ends.taken).whole in
+      let one = next_is_there (fold next not_started so.0).world so.1.left so.1.count so.2 in
+      let last : ended.line ≡ (fold next not_started so.0).line + min 1 (length so.1.left) = omega (arith, so.3, one) in
+      let Holds : List ℕ → List ℕ → Type 0 = λ b w. IsShortOf b w ended.line × (length w < length (run_to ended.line b).printed) in
+      let here : Holds ends.taken (written_front lines so.0 k k' so.1) =
+      (is_short lines so.0 k k' so.1 ends.taken ended.line refl last, is_cut lines so.0 k k' so.1 ends.taken ended.line refl last so.2) in
+      subst (λ b. Holds b written) (given_is s s' ends.taken bytes ends.gave given)
+      (subst (Holds ends.taken) (written_is k k' _ written so.1.written told) here)
+
+  pub memory_short : status_of ended.ending ≡ 6 → (bytes written : List ℕ) → WasGiven s s' bytes → WasWritten k k' written → IsShortOf bytes written ended.line
+  memory_short six bytes written given told =
+      let so = at_ending Ending.Memory (is_memory _ six) in
+      let here = is_short (lines_of ends.taken).whole so.0 k k' so.1 ends.taken ended.line refl so.2 in
       subst (λ b. IsShortOf b written ended.line) (given_is s s' ends.taken bytes ends.gave given)
-      (subst (λ w. IsShortOf ends.taken w ended.line) (written_is k k' _ written so.1.written told) short)
+      (subst (λ w. IsShortOf ends.taken w ended.line) (written_is k k' _ written so.1.written told) here)
 
   front_of : (done : List (List ℕ)) → StopsShort not_started (lines_of ends.taken).whole done k k' → (bytes written : List ℕ) → WasGiven s s' bytes → WasWritten k k' written → IsFrontOf written (run_over bytes).printed
   front_of done stops bytes written given told =
@@ -226,7 +299,7 @@ module _ (s s' : SourceMeaning) (k k' : SinkMeaning) (ended : Ended) (ends : End
   plays_so Ending.Finished so = inl refl
   plays_so Ending.Refused so = absurd (not_refused so.0)
   plays_so Ending.SourceFailed so = absurd (sure_source so.3)
-  plays_so Ending.SinkFailed so = absurd (sure_sink so.3)
+  plays_so Ending.SinkFailed so = absurd (sure_sink so.4)
   plays_so Ending.Memory so = inr refl
   plays_so Ending.TooLong so = absurd (omega (arith, front.1, so.3))
 
@@ -234,6 +307,12 @@ module _ (s s' : SourceMeaning) (k k' : SinkMeaning) (ended : Ended) (ends : End
   playable_is_played = plays_so ended.ending ends.so
 
 -- between one moment and itself nothing is given or written
+pub given_at_once : (s : SourceMeaning) (all : List ℕ) → s.left ≡ Some all → (bytes : List ℕ) × WasGiven s s bytes
+given_at_once s all told = ([], record { left = all; before = told; after = told })
+
+pub written_at_once : (k : SinkMeaning) (front : List ℕ) → k.written ≡ Some front → (bytes : List ℕ) × WasWritten k k bytes
+written_at_once k front told = ([], record { front = front; before = told; after = told ∙ ap Some (sym (append-nil front)) })
+
 pub nothing_given : (s : SourceMeaning) (bytes : List ℕ) → WasGiven s s bytes → bytes ≡ []
 nothing_given s bytes given =
     let same : Some (bytes ++ given.left) ≡ Some given.left = sym given.before ∙ given.after in

@@ -1,5 +1,5 @@
 -- How far a writing has come, and what the next write of it adds.
-use Rattle.std.proofs.Common.{◌≡◌, ℕ, ◌+◌, ◌≤◌, List, [], ◌++◌, take, drop, refl, sym, ap, ap₂, ◌∙◌, arith}
+use Rattle.std.proofs.Common.{◌≡◌, ℕ, ◌+◌, List, [], ◌++◌, take, drop, refl, sym, ap, ap₂, ◌∙◌}
 use Rattle.std.proofs.Math.Seq.{take-add}
 use Rattle.std.proofs.lemmas.List.{drop-drop, take-append-drop, append-nil}
 use Rattle.outside.proofs.ToldLemmas.{with_back_nothing, with_back_more}
@@ -10,18 +10,18 @@ use Rattle.outside.specs.declared.sinks.Gave.TheVariants.{Bytes}
 
 -- since `old` the bytes but for `rest` were written
 pub record WroteAllBut (old now : SinkMeaning) (bytes rest : List ℕ) : Type 0 where
-  pub later : old.faults ≤ now.faults
+  pub same : now.faults ≡ old.faults
   pub count : ℕ
   pub rest_is : rest ≡ drop count bytes
   pub written : now.written ≡ with_back old.written (take count bytes)
 
 pub nothing_yet : (m : SinkMeaning) (bytes : List ℕ) → WroteAllBut m m bytes bytes
-nothing_yet m bytes = record { later = omega arith; count = 0; rest_is = refl; written = sym (with_back_nothing m.written) }
+nothing_yet m bytes = record { same = refl; count = 0; rest_is = refl; written = sym (with_back_nothing m.written) }
 
 pub wrote_more : (old now new : SinkMeaning) (bytes rest : List ℕ) (n : ℕ) → WroteAllBut old now bytes rest → Gives now new rest (Bytes n) → WroteAllBut old new bytes (drop n rest)
 wrote_more old now new bytes rest n so_far gives =
     record {
-      later = omega arith;
+      same = gives.so.3 ∙ so_far.same;
       count = so_far.count + n;
       rest_is = ap (drop n) so_far.rest_is ∙ drop-drop n so_far.count bytes;
       written =

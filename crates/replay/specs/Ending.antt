@@ -1,11 +1,12 @@
 -- How the playing of a line, of a piece of a script and of a whole script ends, by what was taken and written.
-use Rattle.std.specs.Prelude.{◌≡◌, ◌≢◌, ◌⊎◌, ℕ, ◌+◌, ◌==◌, ◌≤◌, ◌<◌, true, false, List, [], ◌∷◌, ◌++◌, length, take, fold, Option, Some, None, IfSome, if◌then◌else◌}
+use Rattle.std.specs.Prelude.{◌≡◌, ◌≢◌, ◌⊎◌, ℕ, ◌+◌, ◌==◌, ◌≤◌, ◌<◌, true, false, List, [], ◌∷◌, ◌++◌, length, take, fold, min, Option, Some, None, if◌then◌else◌}
 use Rattle.outside.specs.Faults.{Rose}
 use Rattle.outside.specs.Told.{with_front, with_back}
 use Rattle.outside.specs.SourceMeaning.{SourceMeaning}
 use Rattle.outside.specs.SinkMeaning.{SinkMeaning}
 use Rattle.replay.specs.Machine.{WorldView, Played}
 use Rattle.replay.specs.Script.{Run, Lines, lines_of, next, line_played, not_started, run_over, most_bytes}
+use Rattle.replay.specs.Table.{HasEnded, GoesOn}
 use Rattle.outside.specs.declared.sources.Took.{Took}
 use Rattle.replay.specs.declared.playing.Ending.{Ending}
 use Rattle.replay.specs.declared.playing.Ended.{Ended}
@@ -17,13 +18,20 @@ use Rattle.replay.specs.declared.player.Player.{Player}
 abbrev pub WroteFront : SinkMeaning → SinkMeaning → List ℕ → Type 0
 WroteFront old new bytes = (n : ℕ) × (new.written ≡ with_back old.written (take n bytes))
 
+-- a front of these bytes was written that is not all of them
+abbrev pub WroteShort : SinkMeaning → SinkMeaning → List ℕ → Type 0
+WroteShort old new bytes = (n : ℕ) × (n < length bytes) × (new.written ≡ with_back old.written (take n bytes))
+
+-- what the writing of some bytes does, by its end
 abbrev pub WroteSo : SinkMeaning → SinkMeaning → List ℕ → Writing → Type 0
 WroteSo old new bytes Writing.Whole = new.written ≡ with_back old.written bytes
-WroteSo old new bytes Writing.Failed = WroteFront old new bytes × Rose old.faults new.faults
+WroteSo old new bytes Writing.Failed = WroteShort old new bytes × Rose old.faults new.faults
 WroteSo old new bytes Writing.Memory = WroteFront old new bytes
 
+-- one writing of some bytes: the count of faults stands still unless it failed
 pub record Wrote (old new : SinkMeaning) (bytes : List ℕ) (writing : Writing) : Type 0 where
   pub later : old.faults ≤ new.faults
+  pub kept : (writing ≡ Writing.Failed → ⊥) → new.faults ≡ old.faults
   pub so : WroteSo old new bytes writing
 
 -- what a line prints, where it can be played
@@ -31,16 +39,19 @@ abbrev pub printed_by : Option Played → List ℕ
 printed_by None = []
 printed_by (Some played) = played.printed
 
+-- what the playing of one line does to the world and the sink, by its end
 abbrev pub LineSo : WorldView → WorldView → SinkMeaning → SinkMeaning → List ℕ → Playing → Type 0
 LineSo world world' old new line Playing.Whole =
     (played : Played) × (line_played world line ≡ Some played) × (world' ≡ played.world) × (new.written ≡ with_back old.written played.printed)
 LineSo world world' old new line Playing.Refused = (line_played world line ≡ None) × (new.written ≡ old.written)
 LineSo world world' old new line Playing.SinkFailed =
-    WroteFront old new (printed_by (line_played world line)) × Rose old.faults new.faults
+    WroteShort old new (printed_by (line_played world line)) × Rose old.faults new.faults
 LineSo world world' old new line Playing.Memory = WroteFront old new (printed_by (line_played world line))
 
+-- the playing of one line
 pub record PlaysLine (world world' : WorldView) (old new : SinkMeaning) (line : List ℕ) (playing : Playing) : Type 0 where
   pub later : old.faults ≤ new.faults
+  pub kept : (playing ≡ Playing.SinkFailed → ⊥) → new.faults ≡ old.faults
   pub so : LineSo world world' old new line playing
 
 -- the machine where a player stands, with nothing printed yet
@@ -69,12 +80,14 @@ PieceSo player player' old new lines Playing.Refused =
     let run = fold next (run_of player) lines.whole in
     (run.stuck ≡ true) × (player'.line ≡ run.line + 1) × (new.written ≡ with_back old.written run.printed)
 PieceSo player player' old new lines Playing.SinkFailed =
-    (done : List (List ℕ)) × StopsShort (run_of player) lines.whole done old new × (player'.line ≡ (fold next (run_of player) done).line + 1) × Rose old.faults new.faults
+    (done : List (List ℕ)) × (stops : StopsShort (run_of player) lines.whole done old new) × (stops.count < length (printed_next (fold next (run_of player) done).world stops.left)) × (player'.line ≡ (fold next (run_of player) done).line + 1) × Rose old.faults new.faults
 PieceSo player player' old new lines Playing.Memory =
-    (done : List (List ℕ)) × StopsShort (run_of player) lines.whole done old new × ((fold next (run_of player) done).line ≤ player'.line) × (player'.line ≤ (fold next (run_of player) done).line + 1)
+    (done : List (List ℕ)) × (stops : StopsShort (run_of player) lines.whole done old new) × (player'.line ≡ (fold next (run_of player) done).line + min 1 (length stops.left))
 
+-- the playing of one piece of a script, as it was taken from the source
 pub record PlaysPiece (player player' : Player) (old new : SinkMeaning) (piece : List ℕ) (playing : Playing) : Type 0 where
   pub later : old.faults ≤ new.faults
+  pub kept : (playing ≡ Playing.SinkFailed → ⊥) → new.faults ≡ old.faults
   pub few_lines : player'.line ≤ player.line + length piece
   pub so : PieceSo player player' old new (lines_of (player.pending.items ++ piece)) playing
 
@@ -96,17 +109,9 @@ ending_of Playing.Memory = Ending.Memory
 abbrev pub GaveBytes : SourceMeaning → SourceMeaning → List ℕ → Type 0
 GaveBytes old new bytes = old.left ≡ with_front bytes new.left
 
--- a source has ended: it has said so, and where it tells, nothing is left
-abbrev pub HasEnded : SourceMeaning → Type 0
-HasEnded source = (source.ended ≡ true) × IfSome source.left (λ left. left ≡ [])
-
 -- the whole output of the lines of these bytes was written
 abbrev pub WroteOutput : SinkMeaning → SinkMeaning → List ℕ → Type 0
 WroteOutput old new bytes = new.written ≡ with_back old.written (run_over bytes).printed
-
--- the source has answered no end
-abbrev pub GoesOn : SourceMeaning → SourceMeaning → Type 0
-GoesOn old new = new.ended ≡ old.ended
 
 -- the line after those played cannot be played, or the script ends within it
 abbrev pub IsRefused : SourceMeaning → List ℕ → SourceMeaning → Type 0
@@ -122,15 +127,19 @@ EndedSo s s' k k' taken Ending.Refused line =
 EndedSo s s' k k' taken Ending.SourceFailed line =
     ((run_over taken).stuck ≡ false) × (line ≡ (run_over taken).line) × WroteOutput k k' taken × Rose s.faults s'.faults × GoesOn s s' × (length taken < most_bytes)
 EndedSo s s' k k' taken Ending.SinkFailed line =
-    (done : List (List ℕ)) × StopsShort not_started (lines_of taken).whole done k k' × (line ≡ (fold next not_started done).line + 1) × Rose k.faults k'.faults × GoesOn s s'
+    (done : List (List ℕ)) × (stops : StopsShort not_started (lines_of taken).whole done k k') × (stops.count < length (printed_next (fold next not_started done).world stops.left)) × (line ≡ (fold next not_started done).line + 1) × Rose k.faults k'.faults × GoesOn s s'
 EndedSo s s' k k' taken Ending.Memory line =
-    (done : List (List ℕ)) × StopsShort not_started (lines_of taken).whole done k k' × ((fold next not_started done).line ≤ line) × (line ≤ (fold next not_started done).line + 1) × GoesOn s s'
+    (done : List (List ℕ)) × (stops : StopsShort not_started (lines_of taken).whole done k k') × (line ≡ (fold next not_started done).line + min 1 (length stops.left)) × GoesOn s s'
 EndedSo s s' k k' taken Ending.TooLong line =
     ((run_over taken).stuck ≡ false) × (line ≡ (run_over taken).line) × WroteOutput k k' taken × (length taken ≡ most_bytes) × GoesOn s s'
 
+-- the playing of a whole source: what was taken, and how it ended
 pub record EndsSource (s s' : SourceMeaning) (k k' : SinkMeaning) (ended : Ended) : Type 0 where
   pub taken : List ℕ
   pub gave : GaveBytes s s' taken
+  pub few : length taken ≤ most_bytes
+  pub source_kept : (ended.ending ≡ Ending.SourceFailed → ⊥) → s'.faults ≡ s.faults
+  pub sink_kept : (ended.ending ≡ Ending.SinkFailed → ⊥) → k'.faults ≡ k.faults
   pub so : EndedSo s s' k k' taken ended.ending ended.line
 
 -- a read gave at most so many bytes

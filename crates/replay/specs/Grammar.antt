@@ -85,6 +85,7 @@ typed_of arguments = do
   text ← text_of g.1
   Some (Typed editor place gone text)
 
+-- the move that a word and its arguments spell
 abbrev pub by_word : List ℕ → List ℕ → Option Move
 by_word word arguments =
     if bytes_eq word (codes "daemon") then option_map Daemon (number_of arguments)

@@ -3,3 +3,4 @@ pub mod Machine
 pub mod Script
 pub mod Ending
 pub mod Table
+pub mod Laws

@@ -32,6 +32,7 @@ most_editors = 1
 abbrev pub longest_text : ℕ
 longest_text = 4194304
 
+-- before the first line: no daemons and no editors
 abbrev pub beginning : WorldView
 beginning = record { daemons = []; editors = [] }
 
@@ -39,6 +40,7 @@ beginning = record { daemons = []; editors = [] }
 abbrev pub edited : Typing → List ℕ → List ℕ
 edited typing text = splice text typing.place (typing.place + typing.gone) typing.text
 
+-- the file after a typing: where it stands in the text, its new characters
 abbrev pub edited_file : Typing → File → File
 edited_file typing file = record file { text = edited typing file.text }
 
@@ -67,6 +69,7 @@ quoted text = 34 ∷ encode_utf8_all text ++ 34 ∷ []
 abbrev pub word_of : Editor → List ℕ
 word_of editor = if length editor.sent == 0 then codes "quiet" else codes "busy"
 
+-- the line that shows an editor: its number, whether it is quiet, and its text in quotes
 abbrev pub show_line : ℕ → Editor → List ℕ
 show_line e editor = codes "show " ++ decimal e ++ codes " " ++ word_of editor ++ codes " " ++ quoted editor.text ++ codes "\n"
 
@@ -74,6 +77,7 @@ show_line e editor = codes "show " ++ decimal e ++ codes " " ++ word_of editor +
 abbrev pub quietly : WorldView → Played
 quietly world = record { world = world; printed = [] }
 
+-- what was played, where the condition holds; else the line cannot be played
 abbrev pub only_if : Bool → Played → Option Played
 only_if possible played = if possible then Some played else None
 

@@ -16,6 +16,7 @@ abbrev pub put_before : ℕ → List (List ℕ) → List ℕ → Lines
 put_before b [] rest = record { whole = []; rest = b ∷ rest }
 put_before b (line ∷ lines) rest = record { whole = (b ∷ line) ∷ lines; rest = rest }
 
+-- a text's lines, cut at each LF
 abbrev pub lines_of : List ℕ → Lines
 lines_of [] = record { whole = []; rest = [] }
 lines_of (b ∷ bytes) =
@@ -30,6 +31,7 @@ pub record Run : Type 0 where
   pub line : ℕ
   pub stuck : Bool
 
+-- the machine before the first line
 abbrev pub not_started : Run
 not_started = record { world = beginning; printed = []; line = 0; stuck = false }
 
@@ -39,6 +41,7 @@ moved_on run None = record run { stuck = true }
 moved_on run (Some played) =
     record { world = played.world; printed = run.printed ++ played.printed; line = run.line + 1; stuck = false }
 
+-- what the move that the line spells gives in this world; nothing where it spells none or cannot be played
 abbrev pub line_played : WorldView → List ℕ → Option Played
 line_played world line = move_of line >>= step world
 

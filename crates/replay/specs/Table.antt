@@ -1,10 +1,11 @@
 -- What each status of a replay says of the bytes that were taken from the script and written.
-use Rattle.std.specs.Prelude.{◌≡◌, ◌≢◌, ◌⊎◌, ℕ, ◌+◌, ◌-◌, ◌≤◌, true, false, List, [], ◌++◌, length, take, fold, Some}
+use Rattle.std.specs.Prelude.{◌≡◌, ◌≢◌, ◌⊎◌, ℕ, ◌+◌, ◌-◌, ◌≤◌, true, false, List, [], ◌++◌, length, take, fold, Some, IfSome}
 use Rattle.outside.specs.SourceMeaning.{SourceMeaning}
 use Rattle.outside.specs.SinkMeaning.{SinkMeaning}
 use Rattle.replay.specs.Script.{Run, lines_of, next, not_started, run_over}
 use Rattle.replay.specs.declared.playing.Ending.{Ending}
 
+-- the status of the program, by how the replay ended
 abbrev pub status_of : Ending → ℕ
 status_of Ending.Finished = 0
 status_of Ending.Refused = 2
@@ -24,6 +25,14 @@ pub record WasWritten (old new : SinkMeaning) (bytes : List ℕ) : Type 0 where
   pub front : List ℕ
   pub before : old.written ≡ Some front
   pub after : new.written ≡ Some (front ++ bytes)
+
+-- a source has ended: it has said so, and where it tells, nothing is left
+abbrev pub HasEnded : SourceMeaning → Type 0
+HasEnded source = (source.ended ≡ true) × IfSome source.left (λ left. left ≡ [])
+
+-- whether the source has answered its end is as it was
+abbrev pub GoesOn : SourceMeaning → SourceMeaning → Type 0
+GoesOn old new = new.ended ≡ old.ended
 
 -- all whole lines of these bytes can be played, and this is the number of the last
 pub record IsPlayedTo (bytes : List ℕ) (line : ℕ) : Type 0 where
@@ -50,8 +59,9 @@ pub record IsCutOff (bytes : List ℕ) (line : ℕ) : Type 0 where
 abbrev pub run_to : ℕ → List ℕ → Run
 run_to lines bytes = fold next not_started (take lines (lines_of bytes).whole)
 
--- what was written has all that the lines before this one print, and a front of what this one prints
+-- what was written has all that the whole lines before this one print, and a front of what this one prints
 pub record IsShortOf (bytes written : List ℕ) (line : ℕ) : Type 0 where
+  pub begun : line ≤ length (lines_of bytes).whole
   pub count : ℕ
   pub front : written ≡ take count (run_to line bytes).printed
   pub enough : length (run_to (line - 1) bytes).printed ≤ count

@@ -5,6 +5,7 @@
 //! what each status means, against a plain machine of worlds, moves and lines.
 #![tactic(auto)]
 
+pub mod laws;
 mod lines;
 mod moves;
 mod player;

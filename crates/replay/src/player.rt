@@ -30,7 +30,8 @@ pub enum Playing {
     Memory,
 }
 
-/// How far a script was played: the world, the bytes of the line begun, and how many lines were played.
+/// How far a script was played: the world, the bytes behind the last LF, and the number of the last
+/// line begun, whose LF has come.
 #[derive(Debug, Drop)]
 pub struct Player {
     pub world: World,
@@ -105,12 +106,10 @@ impl Player {
 
 /// Plays the line begun, whose LF has come. No bytes are begun behind it.
 fn end_line<K: Sink>(alloc: Global, player: &mut Player, out: &mut K) -> Playing
-    requires { player.old.line + 1 < 2 ^ 64 }
     ensures plays { PlaysLine player.old.world player.new.world (K.meaning out.old) (K.meaning out.new) player.old.pending.items result }
-    ensures line { player.new.line ≡ player.old.line + 1 }
+    ensures line { player.new.line ≡ player.old.line }
     ensures pending { player.new.pending.items ≡ [] }
 {
-    player.line += 1;
     let playing = play_line(alloc, &mut player.world, player.pending.as_slice(), out);
     player.pending.clear();
     playing
@@ -125,6 +124,7 @@ pub fn play_piece<K: Sink>(alloc: Global, player: &mut Player, piece: &[u8], out
 {
     let mut rest = piece;
     while let Some((line, after)) = first_line(rest) {
+        player.line += 1;
         match player.pending.extend_from_slice(line) {
             Ok(()) => rest = after,
             Err(_) => return Playing::Memory,

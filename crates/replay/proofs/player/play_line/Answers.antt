@@ -9,6 +9,7 @@ returns-in-Whole g c =
     let world = c.args.world.now in
     record {
       later = c.in-Whole.ensures.later;
+      kept = λ _. c.in-Whole.ensures.kept (λ failed. cc);
       so = (
         _,
         ap (λ moved. moved >>= step world) c.in-Ok.ensures.moved ∙ c.in-Ok-play.ensures.played,

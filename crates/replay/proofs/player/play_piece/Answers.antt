@@ -1,7 +1,7 @@
 use Rattle.std.proofs.Common.{List, ℕ, refl, subst}
 use Rattle.replay.specs.Ending.{PlaysLine}
 use Rattle.replay.specs.declared.player.Playing.{Playing}
-use Rattle.replay.proofs.Pieces.{EndsLine, played_on, piece_ended, piece_begun}
+use Rattle.replay.proofs.Pieces.{EndsLine, played_on, piece_ended, piece_begun, line_not_kept, rest_not_kept}
 use Rattle.replay.proofs.player.play_piece.Goals as goal
 
 pub loop-line-preserved : goal.loop-line-preserved
@@ -19,3 +19,11 @@ returns-in_default-end_line g c =
 pub returns-in-Ok-extend_from_slice : goal.returns-in-Ok-extend_from_slice
 returns-in-Ok-extend_from_slice g c =
     piece_begun _ _ _ _ _ _ _ c.loop-line.invariant c.in_default.ensures refl c.in-Ok-extend_from_slice.ensures.items refl
+
+pub returns-in-Err : goal.returns-in-Err
+returns-in-Err g c =
+    let ends : EndsLine c.loop-line.rest.now c.in-Some.line.now c.in-Some.after.now = record { cut = c.in-Some.ensures.0; inner = c.in-Some.ensures.1 } in
+    line_not_kept _ _ _ _ _ _ _ _ c.loop-line.invariant ends _ refl
+
+pub returns-in-Err-extend_from_slice : goal.returns-in-Err-extend_from_slice
+returns-in-Err-extend_from_slice g c = rest_not_kept _ _ _ _ _ _ _ c.loop-line.invariant c.in_default.ensures refl

@@ -12,4 +12,4 @@ pub returns-clause-takes : goal.returns-clause-takes
 returns-clause-takes c =
     let count = c.copy_front-count.ensures.count in
     let front = taken_front c.self.inside.bytes.items c.deref.result.now c.copy_front-count.new.buf c.self.inside.place c.copy_front-count.result c.deref.ensures.value c.copy_front-count.ensures.copied in
-    rw (← c.self.view_is) (record { later = omega arith; so = (grind (arith, nat_tests), omega arith, ap Some front, refl) })
+    rw (← c.self.view_is) (record { later = omega arith; so = (grind (arith, nat_tests), omega arith, ap Some front, refl, refl) })

@@ -1,0 +1,10 @@
+//! Laws of the plain machine, over every script. Each is a function without effect whose contract
+//! is the law.
+
+ghost use Rattle.replay.specs.Laws.{QuietEditorHasItsDaemonsText};
+
+/// After any lines that can be played, an editor with nothing under way shows the text that its
+/// daemon has of its file.
+pub fn quiet_editor_has_its_daemons_text()
+    ensures { QuietEditorHasItsDaemonsText }
+{}
