@@ -5,4 +5,5 @@ pub mod ChangesLemmas
 pub mod RoundTripLemmas
 pub mod ApartLemmas
 pub mod LawLemmas
+pub mod StepsOfLemmas
 pub mod Rows

@@ -1,10 +1,11 @@
 -- What holds of the definitions of positions and edits.
-use Rattle.std.specs.Prelude.{◌≡◌, ◌⊎◌, ℕ, ◌<◌, ◌≤◌, List, ◌∷◌, ◌++◌, length, Some, Ok, Err}
+use Rattle.std.specs.Prelude.{◌≡◌, ◌⊎◌, ℕ, ◌+◌, ◌<◌, ◌≤◌, List, ◌∷◌, ◌++◌, length, Some, Ok, Err}
 use Rattle.tt_base.specs.declared.edits.Position.{Position}
 use Rattle.tt_base.specs.declared.edits.TextEdit.{TextEdit}
-use Rattle.delta.specs.Cells.{Cells, applied}
+use Rattle.delta.specs.Cells.{Cells, base_length, applied, IsNormal}
 use Rattle.text_position.specs.Places.{IsPlace, offset_at, position_at}
 use Rattle.text_position.specs.Edits.{delta_of_edits, LeadInTurn}
+use Rattle.text_position.specs.Changes.{edits_of, AreApart}
 use Rattle.text_position.specs.declared.faults.EditsFault.{EditsFault}
 use Rattle.text_position.specs.declared.faults.EditsFault.TheVariants.{BadPosition, BackwardRange}
 
@@ -56,3 +57,13 @@ RefusalTellsFirst =
 abbrev pub FirstBadIsRefused : Type 0
 FirstBadIsRefused =
     (text : List ℕ) (edits : List TextEdit) (fault : EditsFault) → IsRefusedAt text edits fault → delta_of_edits text edits ≡ Err fault
+
+-- the edits of a normal delta have that delta
+abbrev pub DeltaComesBack : Type 0
+DeltaComesBack =
+    (text : List ℕ) (d : Cells) → IsNormal d → base_length d ≡ length text → delta_of_edits text (edits_of text d) ≡ Ok d
+
+-- their ranges are in the text and apart
+abbrev pub EditsAreApart : Type 0
+EditsAreApart =
+    (text : List ℕ) (d : Cells) → IsNormal d → base_length d ≡ length text → AreApart text (length text + 1) (edits_of text d)

@@ -1,6 +1,6 @@
 //! What holds of the definitions of positions and edits. Each function has an empty body, and its
 //! contract is the law.
-ghost use Rattle.text_position.specs.Laws.{ComputedIsPlace, PlaceIsComputed, PlaceHasPosition, PositionComesBack, DeltaLeadsAsEdits, RefusalTellsFirst, FirstBadIsRefused};
+ghost use Rattle.text_position.specs.Laws.{ComputedIsPlace, PlaceIsComputed, PlaceHasPosition, PositionComesBack, DeltaLeadsAsEdits, RefusalTellsFirst, FirstBadIsRefused, DeltaComesBack, EditsAreApart};
 
 /// The place of a position, as it is computed, is the one that the definition says.
 pub fn computed_place_is_defined()
@@ -23,4 +23,10 @@ pub fn delta_leads_as_edits()
 pub fn first_bad_edit_is_refused()
     ensures first { RefusalTellsFirst }
     ensures refused { FirstBadIsRefused }
+{}
+
+/// The edits of a normal delta have that delta, and their ranges stand apart in the text.
+pub fn delta_comes_back()
+    ensures back { DeltaComesBack }
+    ensures apart { EditsAreApart }
 {}
