@@ -6,7 +6,7 @@ use Rattle.url.specs.Parser.{Parsed, parse_url}
 use Rattle.file_uri.specs.declared.faults.UriFault.TheVariants.{NotAUri, NotFile, HasHost}
 use Rattle.file_uri.specs.Reading.{Reading}
 
--- the URL, if its scheme is `file` and it names no other host (RFC 8089, section 2)
+-- the URL, if its scheme is `file` and its host is empty or missing (RFC 8089, section 2)
 abbrev pub on_this_host : Parts → Reading Parts
 on_this_host url =
     if not (bytes_eq url.scheme (codes "file")) then Err NotFile

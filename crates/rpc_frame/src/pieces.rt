@@ -57,6 +57,7 @@ fn ended(bodies: Vec<Blob>, end: FrameEnd) -> Result<StreamRead, AllocError>
         FrameEnd::NoLength => FrameFault::NoLength,
         FrameEnd::TwoLengths => FrameFault::TwoLengths,
         FrameEnd::TooLong(number) => FrameFault::TooLong(number),
+        // A reader that has met no fault yet is never closed.
         FrameEnd::Closed(_) | FrameEnd::Memory => return Err(AllocError),
     };
     Ok(StreamRead {

@@ -87,7 +87,9 @@ impl FrameReader {
         ensures closed { (fault : FrameFault) → (result ≡ Err (FrameEnd.Closed fault)) ↔ (self.old.kept ≡ Broken fault) }
         ensures still { (fault : FrameFault) → self.old.kept ≡ Broken fault → self.new ≡ self.old }
 
+        // Without memory the reader is spent, and no body waits in it.
         ensures spent { (result ≡ Err FrameEnd.Memory) ↔ (self.new.live ≡ false) }
+        ensures emptied { result ≡ Err FrameEnd.Memory → self.new.done ≡ [] }
     {
         if let Standing::Broken(fault) = self.standing {
             return Err(FrameEnd::Closed(fault));
@@ -100,6 +102,7 @@ impl FrameReader {
                 Err(FrameEnd::from(fault))
             }
             Err(Stop::Memory) => {
+                self.done = Vec::new(alloc);
                 self.standing = Standing::Spent;
                 Err(FrameEnd::Memory)
             }
