@@ -2,7 +2,7 @@
 """Times the built replay on scripts of growing length: seconds, peak memory, and the growth of each.
 
 Build the program first: `rt run` in crates/teamreplay. A script has so many `type` lines, each of one
-character at the end of the text, with a `settle` each hundred lines, and one `show` at the end. With
+character in front of the text, with a `settle` each hundred lines, and one `show` at the end. With
 linear cost the seconds grow about tenfold from one size to the next; the memory grows with the text
 and with what is under way, and not with the length of the script.
 """
@@ -20,7 +20,7 @@ REPEATS = 3
 
 
 def script_of(lines):
-    """Each line types one letter in front; each hundredth but one takes the text back to one letter."""
+    """Each line types one letter in front; the last of each hundred also takes the text back to it alone."""
     yield 'daemon 0\neditor 0 0 f "a"\nsettle 0\n'
     length = 1
     for line in range(lines):
