@@ -25,7 +25,8 @@ found_there test (y ∷ ys) x e = elim (cases_Bool (test y)) [
 ]
 
 -- the key of an item passes its own test
-key_passes : {X K : Type 0} (eq : K → K → Bool) (key : X → K) (y : X) (xs : List X) (k : ℕ) (x : X) → k < length xs → get_or xs k x ≡ x → eq (key y) (key x) ≡ true → list_any (eq (key y)) (map key xs) ≡ true
+key_passes : {X K : Type 0} (eq : K → K → Bool) (key : X → K) (y : X) (xs : List X) (k : ℕ) (x : X) → k < length xs → get_or xs k x ≡ x
+    → eq (key y) (key x) ≡ true → list_any (eq (key y)) (map key xs) ≡ true
 key_passes eq key y [] k x below e same = absurd (omega (arith, below))
 key_passes eq key y (z ∷ zs) zero x below e same = rw (e, same) refl
 key_passes eq key y (z ∷ zs) (suc k) x below e same =
@@ -36,7 +37,8 @@ key_passes eq key y (z ∷ zs) (suc k) x below e same =
     ]
 
 -- with distinct keys the item at an index is the one that is found
-at_found : {X K : Type 0} (eq : K → K → Bool) (key : X → K) → ((k : K) → eq k k ≡ true) → (xs : List X) (k : ℕ) (x : X) → are_distinct eq (map key xs) ≡ true → k < length xs → get_or xs k x ≡ x → find (λ y. eq (key y) (key x)) xs ≡ Some x
+at_found : {X K : Type 0} (eq : K → K → Bool) (key : X → K) → ((k : K) → eq k k ≡ true) → (xs : List X) (k : ℕ) (x : X) → are_distinct eq (map key xs) ≡ true
+    → k < length xs → get_or xs k x ≡ x → find (λ y. eq (key y) (key x)) xs ≡ Some x
 at_found eq key same [] k x distinct below e = absurd (omega (arith, below))
 at_found eq key same (y ∷ ys) zero x distinct below e = rw (e, same (key x)) refl
 at_found eq key same (y ∷ ys) (suc k) x distinct below e =

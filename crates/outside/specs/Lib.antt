@@ -1,5 +1,4 @@
 pub mod Faults
-pub mod Told
 pub mod SourceMeaning
 pub mod SinkMeaning
 pub mod Takes

@@ -1,3 +1,5 @@
+ghost use Rattle.std.specs.Prelude.{◌<◌, length};
+
 use super::*;
 use outside::{Gave, Sink, Source, Took};
 use std::alloc::{AllocError, Global};
@@ -19,7 +21,9 @@ fn read_four<S: Source>(source: &mut S) -> (Took, [u8; 4]) {
     (took, buf)
 }
 
-fn write_to<K: Sink>(alloc: Global, sink: &mut K, piece: &[u8; 2]) -> Gave {
+fn write_to<K: Sink>(alloc: Global, sink: &mut K, piece: &[u8]) -> Gave
+    requires { 0 < length piece.now }
+{
     sink.write(alloc, piece)
 }
 
@@ -59,5 +63,21 @@ fn a_sink_holds_what_was_written(rt: HostRuntime) -> Result<(), Fail> {
     let mut sure = SureSink::new(rt.alloc(), Blob::empty(rt.alloc())?)?;
     assert_eq!(rt; write_to(rt.alloc(), &mut sure, b"bc"), Gave::Bytes(2));
     assert_eq!(rt; sure.written(), b"bc".as_slice());
+    Ok(())
+}
+
+#[test]
+fn long_contents_come_and_go(rt: HostRuntime) -> Result<(), Fail> {
+    let alloc = rt.alloc();
+    let mut sink = MemSink::new(alloc, Blob::empty(alloc)?, numbers(alloc, &[])?)?;
+    for _ in 0..100 {
+        assert_eq!(rt; write_to(alloc, &mut sink, &[b'x'; 50]), Gave::Bytes(50));
+    }
+    assert_eq!(rt; sink.written().len(), 5_000);
+    let mut source = MemSource::new(alloc, blob(alloc, sink.written())?, numbers(alloc, &[])?)?;
+    for _ in 0..1_250 {
+        assert_eq!(rt; read_four(&mut source), (Took::Bytes(4), *b"xxxx"));
+    }
+    assert_eq!(rt; read_four(&mut source).0, Took::Ended);
     Ok(())
 }

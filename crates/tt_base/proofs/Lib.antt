@@ -1,1 +1,3 @@
 mod PathRows
+pub mod IdOrders
+pub mod TextLemmas

@@ -2,6 +2,7 @@
 use Rattle.std.specs.Prelude.{ℕ, Bool, ◌==◌, ◌||◌, List, length, Option, Some, None, nat_lt, codes, if◌then◌else◌}
 use Rattle.std.specs.List.{slice_split, list_any, starts_with}
 use Rattle.std.specs.Str.{bytes_eq}
+use Rattle.tt_base.specs.declared.paths.TheConstants.{MAX_PATH_BYTES, MAX_PATH_PARTS}
 use Rattle.tt_base.specs.declared.paths.PathFault.{PathFault}
 use Rattle.tt_base.specs.declared.paths.PathFault.TheVariants.{TooLong, NulByte, Absolute, Empty, DotPart, Reserved, TooDeep}
 
@@ -30,11 +31,11 @@ is_absolute path = starts_with ◌==◌ path (codes "/")
 -- the first rule that a text breaks, in the order of checking; none where it is a path
 abbrev pub path_fault : List ℕ → Option PathFault
 path_fault path =
-    if nat_lt 1024 (length path) then Some TooLong
+    if nat_lt MAX_PATH_BYTES (length path) then Some TooLong
     else (if list_any is_nul path then Some NulByte
     else (if is_absolute path then Some Absolute
     else (if list_any is_empty_part (parts path) then Some Empty
     else (if list_any is_dot_part (parts path) then Some DotPart
     else (if list_any is_reserved_part (parts path) then Some Reserved
-    else (if nat_lt 32 (length (parts path)) then Some TooDeep
+    else (if nat_lt MAX_PATH_PARTS (length (parts path)) then Some TooDeep
     else None))))))

@@ -1,8 +1,11 @@
 use crate::texts::Text;
 
-/// A place in a text, as the Language Server Protocol names it: a line, and a character in that line.
+/// A place in a text by a line and a character in that line, in the form of the Language Server
+/// Protocol's `Position`.
 ///
-/// Both count from 0. A line ends at LF, and `character` counts Unicode scalar values.
+/// Both count from 0. A line ends at LF alone, where the protocol ends it at CR LF and CR too.
+/// `character` counts Unicode scalar values, where the protocol counts UTF-16 code units unless another
+/// unit was agreed on.
 #[derive(Clone, Copy, Debug, PartialEq, Eq)]
 pub struct Position {
     /// The number of line ends before the place.

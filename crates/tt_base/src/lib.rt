@@ -7,7 +7,7 @@
 mod bytes;
 mod contents;
 mod edits;
-mod lists;
+mod ids;
 mod paths;
 mod texts;
 mod uris;
@@ -15,7 +15,8 @@ mod uris;
 pub use bytes::Blob;
 pub use contents::{Content, View};
 pub use edits::{Position, TextEdit, TextRange};
-pub use lists::List;
+pub use ids::{Actor, ElemId, Name};
+pub use paged::{List, Runs};
 pub use paths::{PathFault, SharedPath};
 pub use texts::Text;
 pub use uris::Uri;

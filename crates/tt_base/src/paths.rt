@@ -19,7 +19,7 @@ pub const MAX_PATH_PARTS: usize = 32;
 /// Why a text is no shared path.
 #[derive(Clone, Copy, Debug, PartialEq, Eq, Error)]
 pub enum PathFault {
-    /// It has more than 1,024 bytes.
+    /// It has more than [`MAX_PATH_BYTES`] bytes.
     #[error("the path has more than 1024 bytes")]
     TooLong,
     /// It has the character U+0000.
@@ -37,7 +37,7 @@ pub enum PathFault {
     /// One of its parts is `.git` or `.teamd`.
     #[error("the path has a reserved part, `.git` or `.teamd`")]
     Reserved,
-    /// It has more than 32 parts.
+    /// It has more than [`MAX_PATH_PARTS`] parts.
     #[error("the path has more than 32 parts")]
     TooDeep,
     /// There is no memory for it.
@@ -96,7 +96,7 @@ fn has_reserved_part(text: &str) -> bool
 }
 
 fn is_too_deep(text: &str) -> bool
-    ensures { result ≡ nat_lt 32 (length (parts text.now)) }
+    ensures { result ≡ nat_lt MAX_PATH_PARTS (length (parts text.now)) }
 {
     text.split('/').count() > MAX_PATH_PARTS
 }

@@ -1,4 +1,5 @@
 use super::*;
+use std::alloc::{AllocError, Global};
 use std::process::Abort;
 use std::test::Fail;
 
@@ -48,6 +49,27 @@ fn a_path_is_refused_for_the_first_rule_that_it_breaks(rt: HostRuntime) -> Resul
 }
 
 #[test]
+fn each_fault_has_its_text(rt: HostRuntime) -> Result<(), Fail> {
+    let cases = [
+        (PathFault::TooLong, "the path has more than 1024 bytes"),
+        (PathFault::NulByte, "the path has a NUL byte"),
+        (PathFault::Absolute, "the path is absolute"),
+        (PathFault::Empty, "the path has an empty part"),
+        (PathFault::DotPart, "the path has a part `.` or `..`"),
+        (
+            PathFault::Reserved,
+            "the path has a reserved part, `.git` or `.teamd`",
+        ),
+        (PathFault::TooDeep, "the path has more than 32 parts"),
+        (PathFault::Memory, "out of memory"),
+    ];
+    for (fault, said) in cases {
+        assert_eq!(rt; format!(in rt.alloc(); "{fault}")?.as_str(), said);
+    }
+    Ok(())
+}
+
+#[test]
 fn paths_are_ordered_by_their_bytes(rt: HostRuntime) -> Result<(), Fail> {
     let upper = SharedPath::read(rt.alloc(), "Z").ok().ok_or("no path")?;
     let lower = SharedPath::read(rt.alloc(), "a").ok().ok_or("no path")?;
@@ -64,10 +86,8 @@ fn a_text_counts_scalar_values(rt: HostRuntime) -> Result<(), Fail> {
     assert!(rt; text.copied(rt.alloc())? == text);
     assert_eq!(rt; text.to_bytes(rt.alloc())?.as_slice(), "a😀b".as_bytes());
     assert!(rt; Text::empty(rt.alloc())?.is_empty());
-    assert_eq!(rt;
-        Text::from_vec(text.into_vec()).as_slice(),
-        ['a', '😀', 'b'].as_slice()
-    );
+    let part = text.copied_range(rt.alloc(), 1, 3)?;
+    assert_eq!(rt; part, Text::from_str(rt.alloc(), "😀b")?);
     Ok(())
 }
 
@@ -84,6 +104,157 @@ fn lists_hold_what_was_pushed(rt: HostRuntime) -> Result<(), Fail> {
     assert_eq!(rt; list.len(), 1);
     assert_eq!(rt; list.at(0).as_slice(), [7].as_slice());
     assert_eq!(rt; List::from_vec(list.into_vec()).as_slice().len(), 1);
+    Ok(())
+}
+
+/// Three letters, of one, two and four bytes, two thousand times: more than one page.
+fn long_words(alloc: Global) -> Result<String, AllocError> {
+    let words = "aß😀".repeat(alloc, 2000)?;
+    Ok(words)
+}
+
+#[test]
+fn a_long_text_is_held_whole(rt: HostRuntime) -> Result<(), Fail> {
+    let words = long_words(rt.alloc())?;
+    let text = Text::from_str(rt.alloc(), words.as_str())?;
+    assert_eq!(rt; text.len(), 6000);
+    assert!(rt; text.copied(rt.alloc())? == text);
+    assert_eq!(rt;
+        text.to_bytes(rt.alloc())?.as_slice(),
+        words.as_str().as_bytes()
+    );
+    Ok(())
+}
+
+#[test]
+fn a_long_text_is_pushed_together(rt: HostRuntime) -> Result<(), Fail> {
+    let mut letters = Text::empty(rt.alloc())?;
+    for _ in 0..2000u16 {
+        for ch in ['a', 'ß', '😀'] {
+            letters.push(rt.alloc(), ch)?;
+        }
+    }
+    assert_eq!(rt;
+        letters.to_bytes(rt.alloc())?.as_slice(),
+        long_words(rt.alloc())?.as_str().as_bytes()
+    );
+    Ok(())
+}
+
+#[test]
+fn long_bytes_are_held_whole(rt: HostRuntime) -> Result<(), Fail> {
+    let mut bytes = Blob::empty(rt.alloc())?;
+    for _ in 0..2000u16 {
+        for byte in "aß😀".as_bytes() {
+            bytes.push(rt.alloc(), *byte)?;
+        }
+    }
+    assert_eq!(rt;
+        bytes.copied(rt.alloc())?.as_slice(),
+        long_words(rt.alloc())?.as_str().as_bytes()
+    );
+    Ok(())
+}
+
+#[test]
+fn a_long_list_is_held_whole(rt: HostRuntime) -> Result<(), Fail> {
+    let mut texts = List::<Text>::empty(rt.alloc())?;
+    for _ in 0..5000u16 {
+        texts.push(rt.alloc(), Text::from_str(rt.alloc(), "aß")?)?;
+    }
+    assert_eq!(rt; texts.len(), 5000);
+    let said = Text::from_str(rt.alloc(), "aß")?;
+    for held in texts.as_slice() {
+        assert!(rt; *held == said);
+    }
+    Ok(())
+}
+
+#[test]
+fn a_long_uri_is_held_whole(rt: HostRuntime) -> Result<(), Fail> {
+    let words = long_words(rt.alloc())?;
+    let uri = Uri::from_str(rt.alloc(), words.as_str())?;
+    assert_eq!(rt; uri.as_str(), words.as_str());
+    Ok(())
+}
+
+/// A text of lines of three characters, the LF counted.
+fn lines(alloc: Global, count: usize) -> Result<Text, AllocError> {
+    let said = "ab\n".repeat(alloc, count)?;
+    Text::from_str(alloc, said.as_str())
+}
+
+/// So many lines, with a text in place of a range.
+fn spliced(
+    alloc: Global,
+    count: usize,
+    start: usize,
+    end: usize,
+    put: &Text,
+) -> Result<Text, AllocError> {
+    let mut text = lines(alloc, count)?;
+    if start <= end && end <= text.len() {
+        text.splice_text(alloc, start, end, put)?;
+    }
+    Ok(text)
+}
+
+/// The same, put together anew from what stands before the range, the text and what stands behind.
+fn joined(
+    alloc: Global,
+    count: usize,
+    start: usize,
+    end: usize,
+    put: &Text,
+) -> Result<Text, AllocError> {
+    let text = lines(alloc, count)?;
+    let mut whole = Vec::new(alloc);
+    if start <= end && end <= text.len() {
+        text.runs(0).copy_to(&mut whole, start)?;
+        put.append_to(&mut whole)?;
+        text.runs(end).copy_to(&mut whole, text.len() - end)?;
+    }
+    Text::from_vec(alloc, whole)
+}
+
+/// Where the text that is put in, or the text itself, is one page and where it is more.
+#[test]
+fn a_text_is_changed_in_place(rt: HostRuntime) -> Result<(), Fail> {
+    let alloc = rt.alloc();
+    for (count, start, end, added) in [
+        (1, 1, 2, 2),
+        (3000, 4000, 8000, 1),
+        (3000, 1024, 1024, 5000),
+    ] {
+        let put = Text::from_str(alloc, "x".repeat(alloc, added)?.as_str())?;
+        let changed = spliced(alloc, count, start, end, &put)?;
+        assert!(rt; changed == joined(alloc, count, start, end, &put)?);
+    }
+    Ok(())
+}
+
+#[test]
+fn a_range_of_a_long_text_is_copied(rt: HostRuntime) -> Result<(), Fail> {
+    let text = lines(rt.alloc(), 3000)?;
+    assert!(rt; 7500 <= text.len());
+    let part = text.copied_range(rt.alloc(), 1500, 7500)?;
+    assert!(rt; part == lines(rt.alloc(), 2000)?);
+    assert!(rt; part != text);
+    Ok(())
+}
+
+#[test]
+fn lines_are_found_in_a_long_text(rt: HostRuntime) -> Result<(), Fail> {
+    let mut text = lines(rt.alloc(), 3000)?;
+    assert_eq!(rt; text.len(), 9000);
+    for (line, place) in [(0, 0), (1, 3), (341, 1023), (2000, 6000), (3000, 9000)] {
+        assert!(rt; place <= text.len());
+        assert_eq!(rt; text.line_ends_before(place), line);
+        assert_eq!(rt; text.behind_line_ends(line), Some(place));
+    }
+    text.splice(rt.alloc(), 0, 0, &['y'])?;
+    assert!(rt; 0 < text.len());
+    assert_eq!(rt; text.char_at(0), 'y');
     Ok(())
 }
 

@@ -8,4 +8,5 @@ use Rattle.tt_base.proofs.paths.has_empty_part.Goals as goal
 pub returns : goal.returns
 returns c =
     let split = c.split.ensures in
-    any_from_yields_List is_empty_part _ _ c.any.result c.any.ensures.ran (YieldsList-from_str_split 47 c.args.text.now (lit< tt) split.text split.has_more split.pattern) (λ x b q k. search (rules, tests))
+    any_from_yields_List is_empty_part _ _ c.any.result c.any.ensures.ran (YieldsList-from_str_split 47 c.args.text.now (lit< tt) split.text split.has_more split.pattern)
+    (λ x b q k. search (rules, tests))

@@ -1,0 +1,5 @@
+pub mod FlatLemmas
+pub mod SpotLemmas
+pub mod SpliceLemmas
+pub mod MarkLemmas
+pub mod ReadingLemmas
