@@ -7,8 +7,8 @@ taken off everywhere.
 The first table has one operation in each row, at sizes of 10,000, 100,000 and 1,000,000 characters,
 with so many edits or positions. With linear cost the growth from one size to the next is about 10;
 where the number of edits stays the same and no text is touched, it is about 1. A position costs a
-pass over the text up to it, and `to_edits` one pass in all. Each edit of a list applies to the text
-that the ones before it leave, so `from_edits` costs a pass for each.
+page, and `to_edits` and `from_edits` a page for each edit; the making of the text is in the time, and a
+pass over it where a list has more edits than one.
 
 The second table reads the frame of a body of so many bytes, cut into pieces. The time includes the
 making of the body and of its frame.

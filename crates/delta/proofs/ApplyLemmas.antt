@@ -1,7 +1,8 @@
 -- What a delta makes of a text, step by step.
 use Rattle.std.proofs.Common.{◌≡◌, ℕ, zero, suc, ◌+◌, ◌≤◌, ◌<◌, true, false, List, [], ◌∷◌, ◌++◌, length, get_or, take, drop, refl, sym, ap, ◌∙◌, arith, append_assoc}
-use Rattle.std.proofs.lemmas.List.{drop_more}
-use Rattle.delta.specs.Cells.{Cell, Cells, applied, base_length, inserts, covers}
+use Rattle.std.specs.List.{splice}
+use Rattle.std.proofs.lemmas.List.{append-nil, drop_more, take_all, drop_at, length-append, length-take-le}
+use Rattle.delta.specs.Cells.{Cell, Cells, applied, base_length, inserts, covers, nothing, keeping, deleting}
 use Rattle.delta.specs.Steps.{after_step, cells_of, step_base, said_by}
 use Rattle.delta.specs.declared.steps.DeltaStep.{DeltaStep}
 use Rattle.delta.specs.declared.steps.DeltaStep.TheVariants.{Keep, Insert, Delete}
@@ -23,6 +24,17 @@ pub applied-deleted : (n : ℕ) (d : Cells) (text : List ℕ) → n ≤ length t
 applied-deleted zero d text h = refl
 applied-deleted (suc n) d [] h = absurd (omega (arith, h))
 applied-deleted (suc n) d (x ∷ text) h = applied-deleted n d text (omega (arith, h))
+
+-- keeping all of a text gives the text, and replacing all of it the text that is inserted
+pub applied-keeping : (n : ℕ) (text : List ℕ) → length text ≡ n → applied (keeping n) text ≡ text
+applied-keeping n text long =
+    applied-kept n nothing text (omega (arith, long)) ∙ append-nil (take n text) ∙ take_all n text (omega (arith, long))
+
+pub applied-replacing_all : (new : List ℕ) (n : ℕ) (text : List ℕ) → length text ≡ n → applied (inserts new (deleting n)) text ≡ new
+applied-replacing_all new n text long =
+    applied-inserts new (deleting n) text
+    ∙ ap (λ l. new ++ l) (applied-deleted n nothing text (omega (arith, long)))
+    ∙ append-nil new
 
 applied-after_step : (s : DeltaStep) (d : Cells) (text : List ℕ) → step_base s ≤ length text → applied (after_step s d) text ≡ said_by s text ++ applied d (drop (step_base s) text)
 applied-after_step (Keep n) d text h = applied-kept n d text h
@@ -47,3 +59,10 @@ applied-step ss i s was now left behind whole lt is long said rest all =
     ∙ ap (λ l. was ++ l) (sym (applied-after_step s (cells_of (drop (i + 1) ss)) left (omega (arith, long, base_length-step ss i s lt is))))
     ∙ ap (λ d. was ++ applied d left) (sym (cells_of-drop ss i s lt is))
     ∙ all
+
+-- behind a text that was inserted stands what stood behind its place
+pub drop-inserted : (old run new : List ℕ) (place at : ℕ) → place ≤ length old → new ≡ splice old place place run → at ≡ place + length run → drop at new ≡ drop place old
+drop-inserted old run new place at within is at_is =
+    ap (drop at) (is ∙ sym (append_assoc (take place old) run (drop place old)))
+    ∙ drop_at (take place old ++ run) (drop place old) at
+    (length-append (take place old) run ∙ ap (λ n. n + length run) (length-take-le place old within) ∙ sym at_is)

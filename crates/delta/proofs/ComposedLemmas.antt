@@ -2,9 +2,11 @@
 use Rattle.std.proofs.Common.{◌≡◌, ℕ, zero, suc, ◌+◌, ◌<◌, ◌≤◌, Bool, true, false, List, [], ◌∷◌, ◌++◌, length, map, get_or, inl, inr, ◌==◌, refl, sym, ap, ◌∙◌, subst, arith, zero-add}
 use Rattle.std.proofs.lemmas.List.{append-nil, map-append, map-id}
 use Rattle.std.proofs.lemmas.Bool.{eqb-true, eqb-false, cases_Bool}
-use Rattle.delta.specs.Cells.{Cell, Cells, keeps, base_length, applied, IsNormal}
+use Rattle.delta.specs.Cells.{Cell, Cells, keeps, base_length, applied, nothing, keeping, normal, IsNormal}
 use Rattle.delta.specs.Marks.{Mark, New, Place, places, applied_marks, marks_from, marks_of, run, is_next, behind, behind_place, delta_from, composed}
-use Rattle.delta.proofs.NormalLemmas.{IsNormal-delta_from}
+use Rattle.delta.proofs.CellsLemmas.{base_length-covers}
+use Rattle.delta.proofs.MarksLemmas.{marks_from-kept}
+use Rattle.delta.proofs.NormalLemmas.{IsNormal-delta_from, delta_from-marks_from}
 
 -- the places among the marks rise, from i on and below e
 abbrev AreRising : ℕ → ℕ → List Mark → Type 0
@@ -86,6 +88,15 @@ marks_of-composed a b =
     let same : 0 + n ≡ n = omega arith in
     marks_from-delta_from 0 n (applied_marks b (marks_of a))
     (AreRising-applied 0 (0 + n) b.cells b.last (marks_of a) (AreRising-applied 0 (0 + n) a.cells a.last (places 0 n) (AreRising-places 0 n)))
+
+-- a delta after one that keeps all
+pub composed-keeping : (d : Cells) → composed (keeping (base_length d)) d ≡ normal d
+composed-keeping d =
+    let n : ℕ = base_length d in
+    let size : base_length (keeping n) ≡ n = omega (arith, base_length-covers true n nothing) in
+    ap (λ m. delta_from 0 m (applied_marks d (marks_of (keeping n)))) size
+    ∙ ap (λ l. delta_from 0 n (applied_marks d l)) (marks_from-kept 0 n nothing ∙ append-nil (places 0 n))
+    ∙ delta_from-marks_from 0 d
 
 pub IsNormal-composed : (a b : Cells) → IsNormal (composed a b)
 IsNormal-composed a b = IsNormal-delta_from 0 (base_length a) (applied_marks b (marks_of a))

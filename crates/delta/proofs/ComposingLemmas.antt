@@ -10,7 +10,8 @@ use Rattle.delta.specs.declared.steps.DeltaStep.{DeltaStep}
 use Rattle.delta.specs.declared.steps.DeltaStep.TheVariants.{Keep, Insert, Delete}
 use Rattle.delta.specs.declared.readers.NextStep.TheVariants.{Keep as KeepNext, Insert as InsertNext, Delete as DeleteNext, End as AtEnd}
 use Rattle.delta.proofs.CellsLemmas.{covers-covers, joined_nothing, base_length-joined, base_length-covers, base_length-inserts, result_length-kept, result_length-deleted, result_length-inserts}
-use Rattle.delta.proofs.MarksLemmas.{length-places, length-marks_from, applied_marks-inserts, applied_marks-kept, applied_marks-deleted, marks_from-inserts, marks_from-kept, marks_from-deleted, marks_from-joined}
+use Rattle.delta.proofs.MarksLemmas.{length-places, length-marks_from, applied_marks-inserts, applied_marks-kept}
+use Rattle.delta.proofs.MarksLemmas.{applied_marks-deleted, marks_from-inserts, marks_from-kept, marks_from-deleted, marks_from-joined}
 use Rattle.delta.proofs.NormalLemmas.{delta_from-marks_from}
 
 zero_right : (n : ℕ) → n + 0 ≡ n
@@ -138,14 +139,14 @@ Composes-then false m n l b c e a f g sum h j = record {
 
 pub size_ahead-keep : (ss : List DeltaStep) (n : ℕ) → next_of ss ≡ KeepNext n → IsCanonical ss → (first_size ss ≡ n) × (0 < n)
 size_ahead-keep [] n is h = cc
-size_ahead-keep (Keep m ∷ ss) n is h = let same : m ≡ n = cc in (same, omega (arith, h.0, same))
+size_ahead-keep (Keep m ∷ ss) n is h = let same : m ≡ n = cc in (same, omega (arith, h.0.content, same))
 size_ahead-keep (Insert t ∷ ss) n is h = cc
 size_ahead-keep (Delete m ∷ ss) n is h = cc
 
 pub size_ahead-insert : (ss : List DeltaStep) (n : ℕ) → next_of ss ≡ InsertNext n → IsCanonical ss → (first_size ss ≡ n) × (0 < n) × (length (text_ahead ss) ≡ n)
 size_ahead-insert [] n is h = cc
 size_ahead-insert (Keep m ∷ ss) n is h = cc
-size_ahead-insert (Insert t ∷ ss) n is h = let same : length t ≡ n = cc in (same, omega (arith, h.0, same), same)
+size_ahead-insert (Insert t ∷ ss) n is h = let same : length t ≡ n = cc in (same, omega (arith, h.0.content, same), same)
 size_ahead-insert (Delete m ∷ ss) n is h = cc
 
 pub size_ahead-delete : (ss : List DeltaStep) (n : ℕ) → next_of ss ≡ DeleteNext n → IsCanonical ss → (first_size ss ≡ n) × (0 < n) × (n ≤ base_length (cells_of ss))
@@ -153,7 +154,7 @@ size_ahead-delete [] n is h = cc
 size_ahead-delete (Keep m ∷ ss) n is h = cc
 size_ahead-delete (Insert t ∷ ss) n is h = cc
 size_ahead-delete (Delete m ∷ ss) n is h =
-    let same : m ≡ n = cc in (same, omega (arith, h.0, same), omega (arith, same, base_length-covers false m (cells_of ss)))
+    let same : m ≡ n = cc in (same, omega (arith, h.0.content, same), omega (arith, same, base_length-covers false m (cells_of ss)))
 
 pub keep_ahead : (ss : List DeltaStep) (n : ℕ) → next_of ss ≡ KeepNext n → n ≤ base_length (cells_of ss)
 keep_ahead [] n is = cc
@@ -167,7 +168,8 @@ nothing_ahead (Keep m ∷ ss) n is le some = cc
 nothing_ahead (Insert t ∷ ss) n is le some = cc
 nothing_ahead (Delete m ∷ ss) n is le some = cc
 
-pub part_kept : (k : Bool) (n taken : ℕ) (ss ts : List DeltaStep) (b c : Cells) → next_of ss ≡ KeepNext n → c ≡ joined b (covers k taken nothing) → cells_of ss ≡ after_step (front_part taken ss) (cells_of ts)
+pub part_kept : (k : Bool) (n taken : ℕ) (ss ts : List DeltaStep) (b c : Cells) → next_of ss ≡ KeepNext n → c ≡ joined b (covers k taken nothing)
+    → cells_of ss ≡ after_step (front_part taken ss) (cells_of ts)
     → Composes (run_step k taken) b c (cells_of ss) (cells_of ts)
 part_kept k n taken [] ts b c is built parts = cc
 part_kept k n taken (Keep m ∷ ss) ts b c is built parts =
@@ -200,13 +202,13 @@ part_deleted k n (Delete m ∷ ss) ts b c is built parts =
 
 no_result : (ss : List DeltaStep) → IsCanonical ss → result_length (cells_of ss) ≡ 0 → ((n : ℕ) → next_of ss ≡ DeleteNext n → ⊥) → cells_of ss ≡ nothing
 no_result [] h none other = refl
-no_result (Keep m ∷ ss) h none other = absurd (omega (arith, h.0, none, result_length-kept m (cells_of ss)))
-no_result (Insert t ∷ ss) h none other = absurd (omega (arith, h.0, none, result_length-inserts t (cells_of ss)))
+no_result (Keep m ∷ ss) h none other = absurd (omega (arith, h.0.content, none, result_length-kept m (cells_of ss)))
+no_result (Insert t ∷ ss) h none other = absurd (omega (arith, h.0.content, none, result_length-inserts t (cells_of ss)))
 no_result (Delete m ∷ ss) h none other = absurd (other m refl)
 
 -- what is left of the first delta, where nothing of its result is
-pub end_of : (ss : List DeltaStep) → IsCanonical ss → result_length (cells_of ss) ≡ 0 → ((n : ℕ) → next_of ss ≡ DeleteNext n → ⊥) → (b : Cells) → b ≡ joined b (cells_of ss)
-end_of ss h none other b = sym (ap (joined b) (no_result ss h none other) ∙ joined_nothing b)
+pub nothing_left : (ss : List DeltaStep) → IsCanonical ss → result_length (cells_of ss) ≡ 0 → ((n : ℕ) → next_of ss ≡ DeleteNext n → ⊥) → (b : Cells) → b ≡ joined b (cells_of ss)
+nothing_left ss h none other b = sym (ap (joined b) (no_result ss h none other) ∙ joined_nothing b)
 
 pub end_deleted : (ss : List DeltaStep) (n : ℕ) → next_of ss ≡ DeleteNext n → IsCanonical ss → result_length (cells_of ss) ≡ 0 → cells_of ss ≡ deleting n
 end_deleted [] n is h none = cc
@@ -215,7 +217,7 @@ end_deleted (Insert t ∷ ss) n is h none = cc
 end_deleted (Delete m ∷ ss) n is h none =
     let same : m ≡ n = cc in
     ap (λ j. covers false j (cells_of ss)) same
-    ∙ ap (covers false n) (no_result ss h.2 (omega (arith, none, result_length-deleted m (cells_of ss))) (λ j e. no_more ss j e h.1)) where
+    ∙ ap (covers false n) (no_result ss h.1 (omega (arith, none, result_length-deleted m (cells_of ss))) (λ j e. no_more ss j e h.0.leads)) where
       no_more : (ss : List DeltaStep) (j : ℕ) → next_of ss ≡ DeleteNext j → MayLead (Delete m) ss → ⊥
       no_more [] j e lead = cc
       no_more (Keep i ∷ ss) j e lead = cc
@@ -223,7 +225,8 @@ end_deleted (Delete m ∷ ss) n is h none =
       no_more (Delete i ∷ ss) j e lead = lead
 
 -- the whole, once nothing of the result of the first delta is left
-pub composed_by : (first second b a c : Cells) → composing b a nothing ≡ applied_marks second (marks_of first) → base_length b + base_length a ≡ base_length first → result_length a ≡ 0 → c ≡ joined b a → normal c ≡ composed first second
+pub composed_by : (first second b a c : Cells) → composing b a nothing ≡ applied_marks second (marks_of first) → base_length b + base_length a ≡ base_length first
+    → result_length a ≡ 0 → c ≡ joined b a → normal c ≡ composed first second
 composed_by first second b a c leaves base none built =
     let empty : marks_from (base_length b) a ≡ [] = nil_from_length (marks_from (base_length b) a) (length-marks_from (base_length b) a ∙ none) in
     let marks : marks_of c ≡ applied_marks second (marks_of first) =

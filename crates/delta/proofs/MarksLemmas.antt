@@ -14,7 +14,8 @@ length-places i (suc n) = ap suc (length-places (suc i) n)
 
 pub applied_marks-inserts : (t : List ℕ) (d : Cells) (marks : List Mark) → applied_marks (inserts t d) marks ≡ map New t ++ applied_marks d marks
 applied_marks-inserts t d = by_cells d.cells d.last where
-  by_cells : (cs : List Cell) (last : List ℕ) (marks : List Mark) → applied_marks (inserts t (record { cells = cs; last = last })) marks ≡ map New t ++ applied_marks (record { cells = cs; last = last }) marks
+  by_cells : (cs : List Cell) (last : List ℕ) (marks : List Mark)
+      → applied_marks (inserts t (record { cells = cs; last = last })) marks ≡ map New t ++ applied_marks (record { cells = cs; last = last }) marks
   by_cells [] last marks = map-append New t last
   by_cells (c ∷ cs) last [] =
       ap (λ l. l ++ applied_marks (record { cells = cs; last = last }) []) (map-append New t c.inserted)

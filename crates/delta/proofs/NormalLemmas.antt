@@ -2,9 +2,9 @@
 use Rattle.std.proofs.Common.{◌≡◌, ℕ, zero, suc, ◌≤◌, Bool, true, false, eqb, List, [], ◌∷◌, ◌++◌, length, map, refl, sym, ap, ◌∙◌, subst, arith, append_assoc}
 use Rattle.std.proofs.lemmas.Bool.{eq-eqb, ne_eqb}
 use Rattle.std.proofs.lemmas.List.{append-nil, map-append}
-use Rattle.delta.specs.Cells.{Cell, Cells, ends, with_cell, keeps, base_length, result_length, front, with_front, inserts, settled, normal, no_text_behind, IsNormal}
-use Rattle.delta.proofs.MarksLemmas.{marks_from-inserts, length-marks_from}
-use Rattle.delta.specs.Marks.{Mark, New, Place, marks_from, run, is_next, behind, behind_place, delta_from}
+use Rattle.delta.specs.Cells.{Cell, Cells, ends, with_cell, keeps, base_length, result_length, front, with_front_text, inserts, normal_with_cell, normal, no_text_behind, IsNormal}
+use Rattle.delta.specs.Marks.{Mark, New, Place, places, applied_marks, marks_from, run, is_next, behind, behind_place, delta_from}
+use Rattle.delta.proofs.MarksLemmas.{applied_marks-inserts, length-marks_from}
 
 -- all places among the marks are i or later
 abbrev pub AreFrom : ℕ → List Mark → Type 0
@@ -84,28 +84,28 @@ front-delta_from : (i n : ℕ) (marks : List Mark) → front (delta_from i n mar
 front-delta_from i zero marks = refl
 front-delta_from i (suc n) marks = refl
 
-with_front-delta_from : (i n : ℕ) (marks : List Mark) → with_front [] (delta_from i n marks) ≡ delta_from i n (strip marks)
-with_front-delta_from i zero marks = ap ends (sym (run-strip marks))
-with_front-delta_from i (suc n) marks =
+with_front_text-delta_from : (i n : ℕ) (marks : List Mark) → with_front_text [] (delta_from i n marks) ≡ delta_from i n (strip marks)
+with_front_text-delta_from i zero marks = ap ends (sym (run-strip marks))
+with_front_text-delta_from i (suc n) marks =
     ap (λ t. with_cell t (is_next i marks) (delta_from (suc i) n (behind i marks))) (sym (run-strip marks))
     ∙ ap (λ b. with_cell (run (strip marks)) b (delta_from (suc i) n (behind i marks))) (sym (is_next-strip i marks))
     ∙ ap (λ l. with_cell (run (strip marks)) (is_next i (strip marks)) (delta_from (suc i) n l)) (sym (behind-strip i marks))
 
 -- one cell, read from its marks before those of the rest
-settled-delta_from : (i n : ℕ) (t : List ℕ) (k : Bool) (marks : List Mark) → AreFrom (suc i) marks
-    → delta_from i (suc n) (map New t ++ keeps k (Place i) marks) ≡ settled t k (delta_from (suc i) n marks)
-settled-delta_from i n t true marks h =
+normal_with_cell-delta_from : (i n : ℕ) (t : List ℕ) (k : Bool) (marks : List Mark) → AreFrom (suc i) marks
+    → delta_from i (suc n) (map New t ++ keeps k (Place i) marks) ≡ normal_with_cell t k (delta_from (suc i) n marks)
+normal_with_cell-delta_from i n t true marks h =
     let all : List Mark = map New t ++ (Place i ∷ marks) in
     let here : eqb i i ≡ true = eq-eqb i i refl in
     ap (λ l. with_cell l (is_next i all) (delta_from (suc i) n (behind i all))) (run-new t (Place i ∷ marks) ∙ append-nil t)
     ∙ ap (λ b. with_cell t b (delta_from (suc i) n (behind i all))) (is_next-new i t (Place i ∷ marks) ∙ here)
     ∙ ap (λ l. with_cell t true (delta_from (suc i) n l)) (behind-new i t (Place i ∷ marks) ∙ ap (λ b. behind_place b (Place i) marks) here)
-settled-delta_from i n t false marks h =
+normal_with_cell-delta_from i n t false marks h =
     let all : List Mark = map New t ++ marks in
     ap (λ l. with_cell l (is_next i all) (delta_from (suc i) n (behind i all))) (run-new t marks ∙ ap (λ l. t ++ l) (sym (front-delta_from (suc i) n marks)))
     ∙ ap (λ b. with_cell (t ++ front (delta_from (suc i) n marks)) b (delta_from (suc i) n (behind i all))) (is_next-new i t marks ∙ is_next-later i marks h)
     ∙ ap (λ l. with_cell (t ++ front (delta_from (suc i) n marks)) false (delta_from (suc i) n l)) (behind-new i t marks ∙ behind-later i marks h)
-    ∙ ap (λ e. with_cell (t ++ front (delta_from (suc i) n marks)) false e) (sym (with_front-delta_from (suc i) n marks))
+    ∙ ap (λ e. with_cell (t ++ front (delta_from (suc i) n marks)) false e) (sym (with_front_text-delta_from (suc i) n marks))
 
 run-all : (t : List ℕ) → run (map New t) ≡ t
 run-all [] = refl
@@ -117,13 +117,13 @@ delta_from-marks_from i d = by_cells i d.cells d.last where
   by_cells i [] last = ap ends (run-all last)
   by_cells i (c ∷ cs) last =
       let rest : Cells = record { cells = cs; last = last } in
-      settled-delta_from i (length cs) c.inserted c.kept (marks_from (suc i) rest) (AreFrom-marks_from (suc i) rest)
-      ∙ ap (settled c.inserted c.kept) (by_cells (suc i) cs last)
+      normal_with_cell-delta_from i (length cs) c.inserted c.kept (marks_from (suc i) rest) (AreFrom-marks_from (suc i) rest)
+      ∙ ap (normal_with_cell c.inserted c.kept) (by_cells (suc i) cs last)
 
 -- the text at gap 0 may be taken off and put back
-pub inserts-front : (d : Cells) → inserts (front d) (with_front [] d) ≡ d
+pub inserts-front : (d : Cells) → inserts (front d) (with_front_text [] d) ≡ d
 inserts-front d = by_cells d.cells d.last where
-  by_cells : (cs : List Cell) (last : List ℕ) → inserts (front (record { cells = cs; last = last })) (with_front [] (record { cells = cs; last = last })) ≡ record { cells = cs; last = last }
+  by_cells : (cs : List Cell) (last : List ℕ) → inserts (front (record { cells = cs; last = last })) (with_front_text [] (record { cells = cs; last = last })) ≡ record { cells = cs; last = last }
   by_cells [] last = ap ends (append-nil last)
   by_cells (c ∷ cs) last = ap (λ t. with_cell t c.kept (record { cells = cs; last = last })) (append-nil c.inserted)
 
@@ -133,36 +133,57 @@ front-inserts t d = by_cells d.cells d.last where
   by_cells [] last = refl
   by_cells (c ∷ cs) last = refl
 
-marks_from-settled : (i : ℕ) (t : List ℕ) (k : Bool) (d : Cells) → marks_from i (settled t k d) ≡ map New t ++ keeps k (Place i) (marks_from (suc i) d)
-marks_from-settled i t true d = refl
-marks_from-settled i t false d =
-    ap (λ l. l ++ marks_from (suc i) (with_front [] d)) (map-append New t (front d))
-    ∙ append_assoc (map New t) (map New (front d)) (marks_from (suc i) (with_front [] d))
-    ∙ ap (λ l. map New t ++ l) (sym (marks_from-inserts (suc i) (front d) (with_front [] d)) ∙ ap (marks_from (suc i)) (inserts-front d))
+applied_marks-front : (d : Cells) (marks : List Mark) → map New (front d) ++ applied_marks (with_front_text [] d) marks ≡ applied_marks d marks
+applied_marks-front d marks =
+    sym (applied_marks-inserts (front d) (with_front_text [] d) marks) ∙ ap (λ e. applied_marks e marks) (inserts-front d)
 
-pub marks_from-normal : (i : ℕ) (d : Cells) → marks_from i (normal d) ≡ marks_from i d
-marks_from-normal i d = by_cells i d.cells d.last where
-  by_cells : (i : ℕ) (cs : List Cell) (last : List ℕ) → marks_from i (normal (record { cells = cs; last = last })) ≡ marks_from i (record { cells = cs; last = last })
-  by_cells i [] last = refl
-  by_cells i (c ∷ cs) last =
-      marks_from-settled i c.inserted c.kept (normal (record { cells = cs; last = last }))
-      ∙ ap (λ l. map New c.inserted ++ keeps c.kept (Place i) l) (by_cells (suc i) cs last)
+-- a deleted place, whose text is followed by that of the rest
+applied_marks-moved : (t : List ℕ) (d : Cells) (marks : List Mark) → map New (t ++ front d) ++ applied_marks (with_front_text [] d) marks ≡ map New t ++ applied_marks d marks
+applied_marks-moved t d marks =
+    ap (λ l. l ++ applied_marks (with_front_text [] d) marks) (map-append New t (front d))
+    ∙ append_assoc (map New t) (map New (front d)) (applied_marks (with_front_text [] d) marks)
+    ∙ ap (λ l. map New t ++ l) (applied_marks-front d marks)
 
-base_length-with_front : (t : List ℕ) (d : Cells) → base_length (with_front t d) ≡ base_length d
-base_length-with_front t d = by_cells d.cells d.last where
-  by_cells : (cs : List Cell) (last : List ℕ) → base_length (with_front t (record { cells = cs; last = last })) ≡ length cs
+applied_marks-normal_with_cell : (t : List ℕ) (k : Bool) (d : Cells) (m : Mark) (marks : List Mark)
+    → applied_marks (normal_with_cell t k d) (m ∷ marks) ≡ map New t ++ keeps k m (applied_marks d marks)
+applied_marks-normal_with_cell t true d m marks = refl
+applied_marks-normal_with_cell t false d m marks = applied_marks-moved t d marks
+
+applied_marks-normal_with_cell_short : (t : List ℕ) (k : Bool) (d : Cells) → applied_marks (normal_with_cell t k d) [] ≡ map New t ++ applied_marks d []
+applied_marks-normal_with_cell_short t true d = refl
+applied_marks-normal_with_cell_short t false d = applied_marks-moved t d []
+
+-- the normal form leaves of any marks what the delta leaves
+pub applied_marks-normal : (d : Cells) (marks : List Mark) → applied_marks (normal d) marks ≡ applied_marks d marks
+applied_marks-normal d marks = by_cells d.cells d.last marks where
+  by_cells : (cs : List Cell) (last : List ℕ) (marks : List Mark) → applied_marks (normal (record { cells = cs; last = last })) marks ≡ applied_marks (record { cells = cs; last = last }) marks
+  by_cells [] last marks = refl
+  by_cells (c ∷ cs) last [] =
+      applied_marks-normal_with_cell_short c.inserted c.kept (normal (record { cells = cs; last = last }))
+      ∙ ap (λ l. map New c.inserted ++ l) (by_cells cs last [])
+  by_cells (c ∷ cs) last (m ∷ marks) =
+      applied_marks-normal_with_cell c.inserted c.kept (normal (record { cells = cs; last = last })) m marks
+      ∙ ap (λ l. map New c.inserted ++ keeps c.kept m l) (by_cells cs last marks)
+
+base_length-with_front_text : (t : List ℕ) (d : Cells) → base_length (with_front_text t d) ≡ base_length d
+base_length-with_front_text t d = by_cells d.cells d.last where
+  by_cells : (cs : List Cell) (last : List ℕ) → base_length (with_front_text t (record { cells = cs; last = last })) ≡ length cs
   by_cells [] last = refl
   by_cells (c ∷ cs) last = refl
 
-base_length-settled : (t : List ℕ) (k : Bool) (d : Cells) → base_length (settled t k d) ≡ suc (base_length d)
-base_length-settled t true d = refl
-base_length-settled t false d = ap suc (base_length-with_front [] d)
+base_length-normal_with_cell : (t : List ℕ) (k : Bool) (d : Cells) → base_length (normal_with_cell t k d) ≡ suc (base_length d)
+base_length-normal_with_cell t true d = refl
+base_length-normal_with_cell t false d = ap suc (base_length-with_front_text [] d)
 
 pub base_length-normal : (d : Cells) → base_length (normal d) ≡ base_length d
 base_length-normal d = by_cells d.cells d.last where
   by_cells : (cs : List Cell) (last : List ℕ) → base_length (normal (record { cells = cs; last = last })) ≡ length cs
   by_cells [] last = refl
-  by_cells (c ∷ cs) last = base_length-settled c.inserted c.kept (normal (record { cells = cs; last = last })) ∙ ap suc (by_cells cs last)
+  by_cells (c ∷ cs) last = base_length-normal_with_cell c.inserted c.kept (normal (record { cells = cs; last = last })) ∙ ap suc (by_cells cs last)
+
+pub marks_from-normal : (i : ℕ) (d : Cells) → marks_from i (normal d) ≡ marks_from i d
+marks_from-normal i d =
+    ap (λ n. applied_marks (normal d) (places i n)) (base_length-normal d) ∙ applied_marks-normal d (places i (base_length d))
 
 -- two deltas that leave the same marks have one normal form
 pub same_normal : (d e : Cells) → base_length d ≡ base_length e → marks_from 0 d ≡ marks_from 0 e → normal d ≡ normal e
@@ -175,11 +196,11 @@ same_normal d e lengths marks =
 pub normal-normal : (d : Cells) → normal (normal d) ≡ normal d
 normal-normal d = same_normal (normal d) d (base_length-normal d) (marks_from-normal 0 d)
 
-settled_when_normal : (t : List ℕ) (k : Bool) (cs : List Cell) (last : List ℕ) → no_text_behind k (front (record { cells = cs; last = last }))
-    → settled t k (record { cells = cs; last = last }) ≡ with_cell t k (record { cells = cs; last = last })
-settled_when_normal t true cs last h = refl
-settled_when_normal t false [] last h = ap (λ l. with_cell (t ++ l) false (ends [])) h ∙ ap (λ l. with_cell l false (ends [])) (append-nil t) ∙ ap (λ l. with_cell t false (ends l)) (sym h)
-settled_when_normal t false (c ∷ cs) last h =
+normal_with_cell-normal : (t : List ℕ) (k : Bool) (cs : List Cell) (last : List ℕ) → no_text_behind k (front (record { cells = cs; last = last }))
+    → normal_with_cell t k (record { cells = cs; last = last }) ≡ with_cell t k (record { cells = cs; last = last })
+normal_with_cell-normal t true cs last h = refl
+normal_with_cell-normal t false [] last h = ap (λ l. with_cell (t ++ l) false (ends [])) h ∙ ap (λ l. with_cell l false (ends [])) (append-nil t) ∙ ap (λ l. with_cell t false (ends l)) (sym h)
+normal_with_cell-normal t false (c ∷ cs) last h =
     let rest : Cells = record { cells = cs; last = last } in
     ap (λ l. with_cell (t ++ l) false (with_cell [] c.kept rest)) h
     ∙ ap (λ l. with_cell l false (with_cell [] c.kept rest)) (append-nil t)
@@ -190,7 +211,7 @@ normal_is_fixed d = by_cells d.cells d.last where
   by_cells : (cs : List Cell) (last : List ℕ) → IsNormal (record { cells = cs; last = last }) → normal (record { cells = cs; last = last }) ≡ record { cells = cs; last = last }
   by_cells [] last h = refl
   by_cells (c ∷ cs) last h =
-      ap (settled c.inserted c.kept) (by_cells cs last h.1) ∙ settled_when_normal c.inserted c.kept cs last h.0
+      ap (normal_with_cell c.inserted c.kept) (by_cells cs last h.1) ∙ normal_with_cell-normal c.inserted c.kept cs last h.0
 
 is_next-behind : (i : ℕ) (marks : List Mark) → is_next i marks ≡ false → behind i marks ≡ strip marks
 is_next-behind i [] h = refl

@@ -37,6 +37,6 @@ advance_size (x ∷ ss) v s used count is left h le =
     let same : s ≡ x = cc in
     subst (λ y. used + count ≤ step_size y) (sym same) (subst P left (by_step x) h le) where
       by_step : (x : DeltaStep) → IsCanonical (steps_left used (x ∷ ss)) → count ≤ first_size (steps_left used (x ∷ ss)) → used + count ≤ step_size x
-      by_step (Keep n) h le = omega (arith, h.0, le)
-      by_step (Insert t) h le = omega (arith, h.0, le, length-drop used t)
-      by_step (Delete n) h le = omega (arith, h.0, le)
+      by_step (Keep n) h le = omega (arith, h.0.content, le)
+      by_step (Insert t) h le = omega (arith, h.0.content, le, length-drop used t)
+      by_step (Delete n) h le = omega (arith, h.0.content, le)

@@ -1,9 +1,9 @@
 -- Lists of steps: side by side, in canonical form, and that a delta has one of them.
-use Rattle.std.proofs.Common.{◌≡◌, ℕ, zero, suc, Bool, true, false, List, [], ◌∷◌, ◌++◌, length, ◌==◌, refl, sym, ap, ◌∙◌, arith}
+use Rattle.std.proofs.Common.{◌≡◌, ℕ, zero, suc, ◌<◌, Bool, true, false, List, [], ◌∷◌, ◌++◌, length, ◌==◌, refl, sym, ap, ◌∙◌, arith}
 use Rattle.std.proofs.lemmas.List.{append-nil}
 use Rattle.std.proofs.lemmas.Bool.{ne_eqb, and_left}
 use Rattle.std.specs.List.{list_all}
-use Rattle.delta.specs.Cells.{Cell, Cells, front, inserts, covers, joined, IsNormal, changes_nothing}
+use Rattle.delta.specs.Cells.{Cell, Cells, front, inserts, covers, joined, nothing, deleting, IsNormal, changes_nothing}
 use Rattle.delta.specs.Steps.{after_step, cells_of, MayFollow, MayLead, IsCanonical, is_keep}
 use Rattle.delta.specs.declared.steps.DeltaStep.{DeltaStep}
 use Rattle.delta.specs.declared.steps.DeltaStep.TheVariants.{Keep, Insert, Delete}
@@ -70,21 +70,24 @@ steps_for-deleted (suc n) d ss e h = ap more_deleted (steps_for-deleted n d ss e
   by_steps (Insert text ∷ ss) h = absurd h
   by_steps (Delete m ∷ ss) h = absurd h
 
-front-covers : (k : Bool) (n : ℕ) (d : Cells) → front (covers k (suc n) d) ≡ []
-front-covers k n d = refl
+-- no text stands in front of a run
+pub front-covers : (k : Bool) (n : ℕ) (d : Cells) → 0 < n → front (covers k n d) ≡ []
+front-covers k zero d some = absurd (omega (arith, some))
+front-covers k (suc n) d some = refl
 
 -- behind an insertion or a deletion no text stands in front
-no_front : (s : DeltaStep) (ss : List DeltaStep) → IsCanonical ss → ((t : List ℕ) → MayFollow s (Insert t) → ⊥) → MayLead s ss → front (cells_of ss) ≡ []
+pub no_front : (s : DeltaStep) (ss : List DeltaStep) → IsCanonical ss → ((t : List ℕ) → MayFollow s (Insert t) → ⊥) → MayLead s ss → front (cells_of ss) ≡ []
 no_front s [] h none lead = refl
-no_front s (Keep zero ∷ ss) h none lead = absurd (omega (arith, h.0))
+no_front s (Keep zero ∷ ss) h none lead = absurd (omega (arith, h.0.content))
 no_front s (Keep (suc n) ∷ ss) h none lead = refl
 no_front s (Insert text ∷ ss) h none lead = absurd (none text lead)
-no_front s (Delete zero ∷ ss) h none lead = absurd (omega (arith, h.0))
+no_front s (Delete zero ∷ ss) h none lead = absurd (omega (arith, h.0.content))
 no_front s (Delete (suc n) ∷ ss) h none lead = refl
 
 steps_for-inserted : (c : ℕ) (t : List ℕ) (d : Cells) → front d ≡ [] → steps_for (inserts (c ∷ t) d) ≡ Insert (c ∷ t) ∷ steps_for d
 steps_for-inserted c t d h = by_cells d.cells d.last h where
-  by_cells : (cs : List Cell) (last : List ℕ) → front (record { cells = cs; last = last }) ≡ [] → steps_for (inserts (c ∷ t) (record { cells = cs; last = last })) ≡ Insert (c ∷ t) ∷ steps_for (record { cells = cs; last = last })
+  by_cells : (cs : List Cell) (last : List ℕ) → front (record { cells = cs; last = last }) ≡ []
+      → steps_for (inserts (c ∷ t) (record { cells = cs; last = last })) ≡ Insert (c ∷ t) ∷ steps_for (record { cells = cs; last = last })
   by_cells [] last h = ap (λ l. Insert (c ∷ (t ++ l)) ∷ []) h ∙ ap (λ l. Insert (c ∷ l) ∷ []) (append-nil t) ∙ ap (λ l. Insert (c ∷ t) ∷ with_text l []) (sym h)
   by_cells (e ∷ cs) last h =
       let rest : List DeltaStep = with_place e.kept (steps_of cs last) in
@@ -92,19 +95,19 @@ steps_for-inserted c t d h = by_cells d.cells d.last h where
 
 steps_for-cells_of : (ss : List DeltaStep) → IsCanonical ss → steps_for (cells_of ss) ≡ ss
 steps_for-cells_of [] h = refl
-steps_for-cells_of (Keep zero ∷ ss) h = absurd (omega (arith, h.0))
-steps_for-cells_of (Keep (suc n) ∷ ss) h = steps_for-kept n (cells_of ss) ss (steps_for-cells_of ss h.2) h.1
-steps_for-cells_of (Insert [] ∷ ss) h = absurd (omega (arith, h.0))
+steps_for-cells_of (Keep zero ∷ ss) h = absurd (omega (arith, h.0.content))
+steps_for-cells_of (Keep (suc n) ∷ ss) h = steps_for-kept n (cells_of ss) ss (steps_for-cells_of ss h.1) h.0.leads
+steps_for-cells_of (Insert [] ∷ ss) h = absurd (omega (arith, h.0.content))
 steps_for-cells_of (Insert (c ∷ t) ∷ ss) h =
-    steps_for-inserted c t (cells_of ss) (no_front (Insert (c ∷ t)) ss h.2 (λ _ no. no) h.1)
-    ∙ ap (λ l. Insert (c ∷ t) ∷ l) (steps_for-cells_of ss h.2)
-steps_for-cells_of (Delete zero ∷ ss) h = absurd (omega (arith, h.0))
-steps_for-cells_of (Delete (suc n) ∷ ss) h = steps_for-deleted n (cells_of ss) ss (steps_for-cells_of ss h.2) h.1
+    steps_for-inserted c t (cells_of ss) (no_front (Insert (c ∷ t)) ss h.1 (λ _ no. no) h.0.leads)
+    ∙ ap (λ l. Insert (c ∷ t) ∷ l) (steps_for-cells_of ss h.1)
+steps_for-cells_of (Delete zero ∷ ss) h = absurd (omega (arith, h.0.content))
+steps_for-cells_of (Delete (suc n) ∷ ss) h = steps_for-deleted n (cells_of ss) ss (steps_for-cells_of ss h.1) h.0.leads
 
 pub one_list_of_steps : (ss ts : List DeltaStep) → IsCanonical ss → IsCanonical ts → cells_of ss ≡ cells_of ts → ss ≡ ts
 one_list_of_steps ss ts h k e = sym (steps_for-cells_of ss h) ∙ ap steps_for e ∙ steps_for-cells_of ts k
 
-IsNormal-kept : (n : ℕ) (d : Cells) → IsNormal d → IsNormal (covers true n d)
+pub IsNormal-kept : (n : ℕ) (d : Cells) → IsNormal d → IsNormal (covers true n d)
 IsNormal-kept zero d h = h
 IsNormal-kept (suc n) d h = (tt, IsNormal-kept n d h)
 
@@ -119,12 +122,15 @@ IsNormal-inserted t d h = by_cells d.cells d.last h where
   by_cells [] last h = tt
   by_cells (c ∷ cs) last h = h
 
+pub IsNormal-replacing_all : (new : List ℕ) (n : ℕ) → IsNormal (inserts new (deleting n))
+IsNormal-replacing_all new n = IsNormal-inserted new (deleting n) (IsNormal-deleted n nothing tt refl)
+
 pub IsNormal-cells_of : (ss : List DeltaStep) → IsCanonical ss → IsNormal (cells_of ss)
 IsNormal-cells_of [] h = tt
-IsNormal-cells_of (Keep n ∷ ss) h = IsNormal-kept n (cells_of ss) (IsNormal-cells_of ss h.2)
-IsNormal-cells_of (Insert t ∷ ss) h = IsNormal-inserted t (cells_of ss) (IsNormal-cells_of ss h.2)
+IsNormal-cells_of (Keep n ∷ ss) h = IsNormal-kept n (cells_of ss) (IsNormal-cells_of ss h.1)
+IsNormal-cells_of (Insert t ∷ ss) h = IsNormal-inserted t (cells_of ss) (IsNormal-cells_of ss h.1)
 IsNormal-cells_of (Delete n ∷ ss) h =
-    IsNormal-deleted n (cells_of ss) (IsNormal-cells_of ss h.2) (no_front (Delete n) ss h.2 (λ _ no. no) h.1)
+    IsNormal-deleted n (cells_of ss) (IsNormal-cells_of ss h.1) (no_front (Delete n) ss h.1 (λ _ no. no) h.0.leads)
 
 changes_nothing-kept : (n : ℕ) (d : Cells) → changes_nothing (covers true n d) ≡ changes_nothing d
 changes_nothing-kept zero d = refl
@@ -142,8 +148,8 @@ changes_nothing-inserted c t d = by_cells d.cells d.last where
 -- a delta changes nothing where each of its steps keeps characters
 pub changes_nothing-cells_of : (ss : List DeltaStep) → IsCanonical ss → list_all is_keep ss ≡ changes_nothing (cells_of ss)
 changes_nothing-cells_of [] h = refl
-changes_nothing-cells_of (Keep n ∷ ss) h = changes_nothing-cells_of ss h.2 ∙ sym (changes_nothing-kept n (cells_of ss))
-changes_nothing-cells_of (Insert [] ∷ ss) h = absurd (omega (arith, h.0))
+changes_nothing-cells_of (Keep n ∷ ss) h = changes_nothing-cells_of ss h.1 ∙ sym (changes_nothing-kept n (cells_of ss))
+changes_nothing-cells_of (Insert [] ∷ ss) h = absurd (omega (arith, h.0.content))
 changes_nothing-cells_of (Insert (c ∷ t) ∷ ss) h = sym (changes_nothing-inserted c t (cells_of ss))
-changes_nothing-cells_of (Delete zero ∷ ss) h = absurd (omega (arith, h.0))
+changes_nothing-cells_of (Delete zero ∷ ss) h = absurd (omega (arith, h.0.content))
 changes_nothing-cells_of (Delete (suc n) ∷ ss) h = refl

@@ -6,7 +6,8 @@ use Rattle.delta.specs.Steps.{after_step, step_base, step_result, cells_of, IsCa
 use Rattle.delta.specs.Alike.{IsAlike}
 use Rattle.delta.specs.declared.steps.DeltaStep.{DeltaStep}
 use Rattle.delta.specs.declared.steps.DeltaStep.TheVariants.{Keep, Insert, Delete}
-use Rattle.delta.proofs.CellsLemmas.{inserts_none, inserts-inserts, joined_assoc, joined-covers, joined-inserts, covers-covers, base_length-joined, base_length-covers, base_length-inserts, result_length-joined, result_length-kept, result_length-inserts, result_length-deleted}
+use Rattle.delta.proofs.CellsLemmas.{inserts_none, inserts-inserts, joined_assoc, joined-covers, joined-inserts, covers-covers}
+use Rattle.delta.proofs.CellsLemmas.{base_length-joined, base_length-covers, base_length-inserts, result_length-joined, result_length-kept, result_length-inserts, result_length-deleted}
 use Rattle.delta.proofs.StepsLemmas.{cells_of-append}
 use Rattle.delta.proofs.AlikeLemmas.{IsAlike-same, IsAlike-trans, IsAlike-joined_right, IsAlike-moved}
 
@@ -94,13 +95,13 @@ base_length-with_group ss k t n =
 
 pub IsCanonical-group : (k : ℕ) (t : List ℕ) (n : ℕ) → IsCanonical (group k t n)
 IsCanonical-group zero [] zero = tt
-IsCanonical-group zero [] (suc n) = (omega arith, tt, tt)
-IsCanonical-group zero (c ∷ t) zero = (omega arith, tt, tt)
-IsCanonical-group zero (c ∷ t) (suc n) = (omega arith, tt, (omega arith, tt, tt))
-IsCanonical-group (suc k) [] zero = (omega arith, tt, tt)
-IsCanonical-group (suc k) [] (suc n) = (omega arith, tt, (omega arith, tt, tt))
-IsCanonical-group (suc k) (c ∷ t) zero = (omega arith, tt, (omega arith, tt, tt))
-IsCanonical-group (suc k) (c ∷ t) (suc n) = (omega arith, tt, (omega arith, tt, (omega arith, tt, tt)))
+IsCanonical-group zero [] (suc n) = (record { content = omega arith; leads = tt }, tt)
+IsCanonical-group zero (c ∷ t) zero = (record { content = omega arith; leads = tt }, tt)
+IsCanonical-group zero (c ∷ t) (suc n) = (record { content = omega arith; leads = tt }, (record { content = omega arith; leads = tt }, tt))
+IsCanonical-group (suc k) [] zero = (record { content = omega arith; leads = tt }, tt)
+IsCanonical-group (suc k) [] (suc n) = (record { content = omega arith; leads = tt }, (record { content = omega arith; leads = tt }, tt))
+IsCanonical-group (suc k) (c ∷ t) zero = (record { content = omega arith; leads = tt }, (record { content = omega arith; leads = tt }, tt))
+IsCanonical-group (suc k) (c ∷ t) (suc n) = (record { content = omega arith; leads = tt }, (record { content = omega arith; leads = tt }, (record { content = omega arith; leads = tt }, tt)))
 
 -- a list may stand before another
 abbrev MayMeet : List DeltaStep → List DeltaStep → Type 0
@@ -110,8 +111,9 @@ MayMeet (x ∷ (y ∷ xs)) ys = MayMeet (y ∷ xs) ys
 
 IsCanonical-append : (xs ys : List DeltaStep) → IsCanonical xs → IsCanonical ys → MayMeet xs ys → IsCanonical (xs ++ ys)
 IsCanonical-append [] ys h k m = k
-IsCanonical-append (x ∷ []) ys h k m = (h.0, m, k)
-IsCanonical-append (x ∷ (y ∷ xs)) ys h k m = (h.0, h.1, IsCanonical-append (y ∷ xs) ys h.2 k m)
+IsCanonical-append (x ∷ []) ys h k m = (record { content = h.0.content; leads = m }, k)
+IsCanonical-append (x ∷ (y ∷ xs)) ys h k m =
+    (record { content = h.0.content; leads = h.0.leads }, IsCanonical-append (y ∷ xs) ys h.1 k m)
 
 MayMeet-last : (xs : List DeltaStep) (s : DeltaStep) (ys : List DeltaStep) → MayLead s ys → MayMeet (xs ++ s ∷ []) ys
 MayMeet-last [] s ys h = h
@@ -145,7 +147,8 @@ group_grows ss kept count h k t n =
     let same : kept + (count + k) ≡ (kept + count) + k = omega arith in
     subst (λ l. IsCanonical (ss ++ group l t n)) same (h (count + k) t n)
 
-pub group_stands : (ss : List DeltaStep) (kept : ℕ) (text : List ℕ) (deleted : ℕ) → ((k : ℕ) (t : List ℕ) (n : ℕ) → IsCanonical (ss ++ group (kept + k) t n)) → IsCanonical (ss ++ group kept text deleted)
+pub group_stands : (ss : List DeltaStep) (kept : ℕ) (text : List ℕ) (deleted : ℕ) → ((k : ℕ) (t : List ℕ) (n : ℕ) → IsCanonical (ss ++ group (kept + k) t n))
+    → IsCanonical (ss ++ group kept text deleted)
 group_stands ss kept text deleted h =
     let same : kept + 0 ≡ kept = omega arith in subst (λ l. IsCanonical (ss ++ group l text deleted)) same (h 0 text deleted)
 
@@ -159,11 +162,25 @@ base_length-after_step (Keep n) d = base_length-covers true n d
 base_length-after_step (Insert t) d = omega (arith, base_length-inserts t d)
 base_length-after_step (Delete n) d = base_length-covers false n d
 
+pub result_length-after_step : (s : DeltaStep) (d : Cells) → result_length (after_step s d) ≡ step_result s + result_length d
+result_length-after_step (Keep n) d = result_length-kept n d
+result_length-after_step (Insert t) d = result_length-inserts t d
+result_length-after_step (Delete n) d = omega (arith, result_length-deleted n d)
+
 -- the bases of the steps so far are within the whole base
 pub base_length-take_more : (ss : List DeltaStep) (i : ℕ) (s : DeltaStep) → i < length ss → s ≡ get_or ss i s → base_length (cells_of (take i ss)) + step_base s ≤ base_length (cells_of ss)
 base_length-take_more ss i s lt is =
     let all : cells_of (take (i + 1) ss ++ drop (i + 1) ss) ≡ cells_of ss = ap cells_of (take-append-drop (i + 1) ss) in
-    omega (arith, ap base_length all, ap base_length (cells_of-append (take (i + 1) ss) (drop (i + 1) ss)), base_length-joined (cells_of (take (i + 1) ss)) (cells_of (drop (i + 1) ss)), ap base_length (cells_of-take_more ss i s lt is), base_length-joined (cells_of (take i ss)) (after_step s nothing), base_length-after_step s nothing)
+    omega (
+      arith,
+      ap base_length all,
+      ap base_length (cells_of-append (take (i + 1) ss) (drop (i + 1) ss)),
+      base_length-joined (cells_of (take (i + 1) ss)) (cells_of (drop (i + 1) ss)),
+      ap base_length (cells_of-take_more ss i s lt is),
+      base_length-joined (cells_of (take i ss))
+          (after_step s nothing),
+      base_length-after_step s nothing,
+    )
 
 one_more : (l m n : ℕ) (d e : Cells) → IsAlike d (joined e (keeping n)) → l ≡ result_length e → m ≡ l + n → m ≡ result_length d
 one_more l m n d e alike is more =
@@ -182,7 +199,8 @@ pub IsAlike-deletes : (ss : List DeltaStep) (k : ℕ) (t : List ℕ) (n m : ℕ)
 IsAlike-deletes ss k t n m d is = IsAlike-same _ _ (group_deletes ss k t n m ∙ ap (λ e. joined e (deleting m)) is)
 
 -- a group in which nothing is changed yet grows by a kept run
-pub IsAlike-keeps : (ss : List DeltaStep) (k : ℕ) (t : List ℕ) (n m : ℕ) (d : Cells) → t ≡ [] → n ≡ 0 → cells_of (ss ++ group k t n) ≡ d → IsAlike (cells_of (ss ++ group (k + m) t n)) (joined d (keeping m))
+pub IsAlike-keeps : (ss : List DeltaStep) (k : ℕ) (t : List ℕ) (n m : ℕ) (d : Cells) → t ≡ [] → n ≡ 0 → cells_of (ss ++ group k t n) ≡ d
+    → IsAlike (cells_of (ss ++ group (k + m) t n)) (joined d (keeping m))
 IsAlike-keeps ss k t n m d empty none is =
     IsAlike-same _ _
     (ap (λ u. cells_of (ss ++ group (k + m) u n)) empty
@@ -201,7 +219,8 @@ IsWriting-keeps ss k t n l m l' empty none w more fits = record {
 }
 
 -- a kept run begins a new group
-pub IsAlike-begins : (ss ts : List DeltaStep) (k : ℕ) (t u : List ℕ) (n m : ℕ) (d : Cells) → ts ≡ ss ++ group k t n → u ≡ [] → cells_of (ss ++ group k t n) ≡ d → IsAlike (cells_of (ts ++ group m u 0)) (joined d (keeping m))
+pub IsAlike-begins : (ss ts : List DeltaStep) (k : ℕ) (t u : List ℕ) (n m : ℕ) (d : Cells) → ts ≡ ss ++ group k t n → u ≡ [] → cells_of (ss ++ group k t n) ≡ d
+    → IsAlike (cells_of (ts ++ group m u 0)) (joined d (keeping m))
 IsAlike-begins ss ts k t u n m d written empty is =
     IsAlike-same _ _
     (ap (λ xs. cells_of (xs ++ group m u 0)) written
@@ -220,7 +239,8 @@ IsWriting-begins ss ts k t u n l m l' written empty change some w more fits = re
 }
 
 -- a text is added to a group
-pub IsAlike-inserts : (ss : List DeltaStep) (k : ℕ) (t u v : List ℕ) (n : ℕ) (d : Cells) → v ≡ t ++ u → cells_of (ss ++ group k t n) ≡ d → IsAlike (cells_of (ss ++ group k v n)) (joined d (inserting u))
+pub IsAlike-inserts : (ss : List DeltaStep) (k : ℕ) (t u v : List ℕ) (n : ℕ) (d : Cells) → v ≡ t ++ u → cells_of (ss ++ group k t n) ≡ d
+    → IsAlike (cells_of (ss ++ group k v n)) (joined d (inserting u))
 IsAlike-inserts ss k t u v n d more is =
     subst (λ e. IsAlike (cells_of (ss ++ group k v n)) (joined e (inserting u))) is
     (subst (λ x. IsAlike (cells_of (ss ++ group k x n)) (joined (cells_of (ss ++ group k t n)) (inserting u))) (sym more) (group_inserts ss k t u n))
@@ -234,7 +254,8 @@ IsWriting-inserts ss k t u v n l l' more w longer fits = record {
 }
 
 -- what was written is a list of steps in canonical form
-pub IsWritten-from_writing : (ss ts : List DeltaStep) (k : ℕ) (t : List ℕ) (n l b : ℕ) (d : Cells) → IsWriting ss k t n l → ts ≡ ss ++ group k t n → cells_of (ss ++ group k t n) ≡ d → b ≡ base_length d → b < 2 ^ 64 → IsWritten b ts
+pub IsWritten-from_writing : (ss ts : List DeltaStep) (k : ℕ) (t : List ℕ) (n l b : ℕ) (d : Cells) → IsWriting ss k t n l → ts ≡ ss ++ group k t n
+    → cells_of (ss ++ group k t n) ≡ d → b ≡ base_length d → b < 2 ^ 64 → IsWritten b ts
 IsWritten-from_writing ss ts k t n l b d w written is base base_fits = record {
   base_fits = base_fits;
   base_is = base ∙ ap base_length (sym is) ∙ ap (λ xs. base_length (cells_of xs)) (sym written);
@@ -243,12 +264,8 @@ IsWritten-from_writing ss ts k t n l b d w written is base base_fits = record {
       omega (arith, w.fits, w.length_is, ap (λ xs. result_length (cells_of xs)) written);
 }
 
-result_length-after_step : (s : DeltaStep) (d : Cells) → result_length (after_step s d) ≡ step_result s + result_length d
-result_length-after_step (Keep n) d = result_length-kept n d
-result_length-after_step (Insert t) d = result_length-inserts t d
-result_length-after_step (Delete n) d = omega (arith, result_length-deleted n d)
-
-pub result_length-take_more : (ss : List DeltaStep) (i : ℕ) (s : DeltaStep) → i < length ss → s ≡ get_or ss i s → result_length (cells_of (take (i + 1) ss)) ≡ result_length (cells_of (take i ss)) + step_result s
+pub result_length-take_more : (ss : List DeltaStep) (i : ℕ) (s : DeltaStep) → i < length ss → s ≡ get_or ss i s
+    → result_length (cells_of (take (i + 1) ss)) ≡ result_length (cells_of (take i ss)) + step_result s
 result_length-take_more ss i s lt is =
     omega (arith, ap result_length (cells_of-take_more ss i s lt is), result_length-joined (cells_of (take i ss)) (after_step s nothing), result_length-after_step s nothing)
 

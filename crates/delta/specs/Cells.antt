@@ -62,16 +62,16 @@ abbrev pub front : Cells → List ℕ
 front d = front_of d.cells d.last
 
 -- the delta with another text at gap 0
-abbrev pub with_front_of : List ℕ → List Cell → List ℕ → Cells
-with_front_of text [] last = ends text
-with_front_of text (c ∷ cs) last = with_cell text c.kept (record { cells = cs; last = last })
+abbrev pub with_front_text_of : List ℕ → List Cell → List ℕ → Cells
+with_front_text_of text [] last = ends text
+with_front_text_of text (c ∷ cs) last = with_cell text c.kept (record { cells = cs; last = last })
 
-abbrev pub with_front : List ℕ → Cells → Cells
-with_front text d = with_front_of text d.cells d.last
+abbrev pub with_front_text : List ℕ → Cells → Cells
+with_front_text text d = with_front_text_of text d.cells d.last
 
 -- the delta that also inserts a text at gap 0, before the text there
 abbrev pub inserts : List ℕ → Cells → Cells
-inserts text d = with_front (text ++ front d) d
+inserts text d = with_front_text (text ++ front d) d
 
 -- the delta with a run of characters in front of its base, which are all kept or all deleted
 abbrev pub covers : Bool → ℕ → Cells → Cells
@@ -100,15 +100,15 @@ abbrev pub deleting : ℕ → Cells
 deleting n = covers false n nothing
 
 -- the cell before a normal delta: where it is deleted, the text behind it moves to the gap before it
-abbrev pub settled : List ℕ → Bool → Cells → Cells
-settled text true d = with_cell text true d
-settled text false d = with_cell (text ++ front d) false (with_front [] d)
+abbrev pub normal_with_cell : List ℕ → Bool → Cells → Cells
+normal_with_cell text true d = with_cell text true d
+normal_with_cell text false d = with_cell (text ++ front d) false (with_front_text [] d)
 
 abbrev pub normal_cells : List Cell → List ℕ → Cells
 normal_cells [] last = ends last
-normal_cells (c ∷ cs) last = settled c.inserted c.kept (normal_cells cs last)
+normal_cells (c ∷ cs) last = normal_with_cell c.inserted c.kept (normal_cells cs last)
 
--- the normal form: each text moves to the next gap on the left whose left character is kept, or to
+-- the normal form, the project's own: each text moves to the next gap on the left whose left character is kept, or to
 -- gap 0, and texts that meet are joined in the order of their gaps
 abbrev pub normal : Cells → Cells
 normal d = normal_cells d.cells d.last

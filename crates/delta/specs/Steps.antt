@@ -36,10 +36,15 @@ abbrev pub MayLead : DeltaStep → List DeltaStep → Type 0
 MayLead s [] = Unit {0}
 MayLead s (next ∷ steps) = MayFollow s next
 
+-- a step may stand in front of others
+pub record IsHead (s : DeltaStep) (steps : List DeltaStep) : Type 0 where
+  pub content : HasContent s
+  pub leads : MayLead s steps
+
 -- the steps in which a delta is written
 abbrev pub IsCanonical : List DeltaStep → Type 0
 IsCanonical [] = Unit {0}
-IsCanonical (s ∷ steps) = HasContent s × MayLead s steps × IsCanonical steps
+IsCanonical (s ∷ steps) = IsHead s steps × IsCanonical steps
 
 -- a list of steps in that form, of this base length, where both lengths fit usize
 pub record IsWritten (base : ℕ) (steps : List DeltaStep) : Type 0 where

@@ -1,3 +1,10 @@
+//! A delta that is built from the front of its base, as it is asked for.
+//!
+//! The builder only keeps what was asked. Normal form is no state of it: `finish` writes all at once in
+//! canonical form, so that each call means the same whatever was asked before.
+//!
+//! It is right since a step at the end of a list of steps is a delta joined behind the one before it
+//! (`joined`), which is what each call promises.
 ghost use Rattle.std.specs.Prelude.{◌≡◌, ◌+◌, ◌^◌, ◌<◌, length, IfOk, OnOk, OnErr};
 ghost use Rattle.delta.specs.Cells.{base_length, joined, keeping, inserting, deleting, nothing, normal};
 
@@ -56,15 +63,15 @@ impl DeltaBuilder {
         ensures ok { OnOk result (self.new ≡ joined self.old (inserting text.now)) }
         ensures err { OnErr result (self.new ≡ self.old) }
     {
-        self.insert_slice(alloc, text.as_slice())
+        self.insert_text(alloc, text.copied(alloc)?)
     }
 
-    /// Inserts characters at the gap that is reached. After want of memory the builder is as before.
-    pub fn insert_slice(&mut self, alloc: Global, chars: &[char]) -> Result<(), AllocError>
-        ensures ok { OnOk result (self.new ≡ joined self.old (inserting chars.now)) }
+    /// Inserts a text at the gap that is reached, in the text's own memory. After want of memory the
+    /// builder is as before, and the text is dropped.
+    pub fn insert_text(&mut self, _alloc: Global, text: Text) -> Result<(), AllocError>
+        ensures ok { OnOk result (self.new ≡ joined self.old (inserting text)) }
         ensures err { OnErr result (self.new ≡ self.old) }
     {
-        let text = Text::from_vec(Vec::from_slice(alloc, chars)?);
         self.steps.push(DeltaStep::Insert(text))?;
         Ok(())
     }

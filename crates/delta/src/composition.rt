@@ -1,3 +1,13 @@
+//! The composition of two deltas, in one walk over the steps of both, which meet in the text between
+//! them: each run of the second takes as much of what the first gives, and a text that the first
+//! inserts and the second deletes is dropped.
+//!
+//! Where the literature composes operation by operation, the meaning here is taken from the places of
+//! the base: both deltas are applied to them, and what is left is read as a delta again.
+//!
+//! It is right since each step keeps what is built, and behind it the rest of both deltas, at the same
+//! places and new characters (`Composes`); a normal delta is fixed by these, so `finish` gives the
+//! composition.
 ghost use Rattle.std.specs.Prelude.{◌≡◌, ◌+◌, ◌^◌, ◌<◌, ◌≤◌, length, IfOk, OnOk};
 ghost use Rattle.delta.specs.Cells.{base_length, result_length, joined, covers, inserts, deleting, nothing};
 ghost use Rattle.delta.specs.Marks.{composed};
@@ -29,17 +39,17 @@ fn cover(
     }
 }
 
-/// Inserts characters where they are kept.
+/// Inserts a text where it is kept.
 fn insert_kept(
     alloc: Global,
     built: &mut DeltaBuilder,
     kept: bool,
-    chars: &[char],
+    text: Text,
 ) -> Result<(), AllocError>
-    ensures { OnOk result (built.new ≡ inserted_if kept chars.now built.old) }
+    ensures { OnOk result (built.new ≡ inserted_if kept text built.old) }
 {
     if kept {
-        built.insert_slice(alloc, chars)
+        built.insert_text(alloc, text)
     } else {
         Ok(())
     }
@@ -70,7 +80,8 @@ fn compose_part(
         }
         NextStep::Insert(n) => {
             let taken = n.min(most);
-            insert_kept(alloc, built, kept, first.text(taken))?;
+            let text = first.text(alloc, taken)?;
+            insert_kept(alloc, built, kept, text)?;
             first.advance(taken);
             Ok(taken)
         }

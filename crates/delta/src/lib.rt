@@ -2,8 +2,10 @@
 //! composition.
 //!
 //! A delta speaks of a base text of some length. At each gap it may insert a text, and each
-//! character of the base it keeps or deletes. This is the delta of operational transformation
-//! (Ellis and Gibbs, 1989) in the form of retained, inserted and deleted runs.
+//! character of the base it keeps or deletes. These are the insertions and deletions of operational
+//! transformation (Ellis and Gibbs, 1989), written as runs that are kept, inserted and deleted. The
+//! normal form is this project's own: a text stands in front of the characters that are deleted with
+//! it, never behind them.
 #![tactic(auto)]
 
 mod application;

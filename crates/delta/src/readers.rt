@@ -1,11 +1,13 @@
-ghost use Rattle.std.specs.Prelude.{◌≡◌, ◌+◌, ◌^◌, ◌<◌, ◌≤◌, length, take};
+ghost use Rattle.std.specs.Prelude.{◌≡◌, ◌+◌, ◌^◌, ◌<◌, ◌≤◌, length, take, IfOk};
 ghost use Rattle.delta.specs.Cells.{base_length, result_length};
 ghost use Rattle.delta.specs.Steps.{after_step, cells_of, IsCanonical};
 ghost use Rattle.delta.specs.Reading.{size_of, front_part, first_size, text_ahead, next_of};
 
 use crate::deltas::Delta;
 use crate::steps::DeltaStep;
+use std::alloc::{AllocError, Global};
 use std::marker::Model;
+use tt_base::Text;
 
 /// What the next step of a delta does, and to how many characters.
 #[derive(Clone, Copy, Debug, PartialEq, Eq)]
@@ -68,14 +70,17 @@ impl<'a> StepReader<'a> {
         }
     }
 
-    /// The first characters of the text that is inserted next.
-    pub fn text(&self, count: usize) -> &'a [char]
+    /// A copy of the first characters of the text that is inserted next.
+    pub fn text(&self, alloc: Global, count: usize) -> Result<Text, AllocError>
         requires { count ≤ length (text_ahead self.now) }
-        ensures { result.now ≡ take count (text_ahead self.now) }
+        ensures { IfOk result (λ text. text ≡ take count (text_ahead self.now)) }
     {
         match self.steps.first() {
-            Some(DeltaStep::Insert(text)) => &text.as_slice()[self.used..][..count],
-            _ => &[],
+            Some(DeltaStep::Insert(text)) => {
+                let _length = text.len();
+                text.copied_range(alloc, self.used, self.used + count)
+            }
+            _ => Text::empty(alloc),
         }
     }
 

@@ -7,6 +7,34 @@ fn text(alloc: Global, s: &str) -> Result<Text, AllocError> {
     Text::from_str(alloc, s)
 }
 
+/// A text so many times.
+fn repeated(alloc: Global, piece: &str, count: u16) -> Result<Text, AllocError> {
+    let piece = text(alloc, piece)?;
+    let mut whole = Vec::new(alloc);
+    for _ in 0..count {
+        piece.append_to(&mut whole)?;
+    }
+    Text::from_vec(alloc, whole)
+}
+
+/// The delta that so many times keeps characters, deletes the one behind them and inserts a text.
+fn replacing_each(
+    alloc: Global,
+    count: u16,
+    kept: u8,
+    inserted: &str,
+) -> Result<Delta, AllocError> {
+    let inserted = text(alloc, inserted)?;
+    let mut builder = DeltaBuilder::new(alloc)?;
+    for done in 0..count {
+        builder.keep(alloc, usize::from(kept))?;
+        builder.delete(alloc, 1)?;
+        builder.insert(alloc, &inserted)?;
+    }
+    let delta = builder.finish(alloc)?;
+    Ok(delta)
+}
+
 #[test]
 fn finish_moves_a_text_before_what_is_deleted(rt: HostRuntime) -> Result<(), Fail> {
     let alloc = rt.alloc();
@@ -60,5 +88,47 @@ fn compose_drops_what_is_deleted_again(rt: HostRuntime) -> Result<(), Fail> {
     let both = compose(alloc, &first, &second)?;
     let want = [DeltaStep::Keep(1), DeltaStep::Delete(1)];
     assert_eq!(rt; both.steps().as_slice(), want.as_slice());
+    Ok(())
+}
+
+/// Also of 100 changes, and of a text of more than 4,096 characters.
+#[test]
+fn deltas_of_many_steps_apply_in_place(rt: HostRuntime) -> Result<(), Fail> {
+    let alloc = rt.alloc();
+    for count in [3, 100, 1000] {
+        let mut changed = repeated(alloc, "abc", count)?;
+        let delta = replacing_each(alloc, count, 2, "wxyz")?;
+        assert_eq!(rt; changed.len(), delta.base_length());
+        delta.apply_in_place(alloc, &mut changed)?;
+        assert_eq!(rt; changed, repeated(alloc, "abwxyz", count)?);
+    }
+    Ok(())
+}
+
+/// Also of 100 changes, and of a text of more than 4,096 characters.
+#[test]
+fn deltas_of_many_steps_apply_in_turn(rt: HostRuntime) -> Result<(), Fail> {
+    let alloc = rt.alloc();
+    for (count, steps) in [(3, 9), (100, 300), (1000, 3000)] {
+        let base = repeated(alloc, "abc", count)?;
+        let first = replacing_each(alloc, count, 2, "wxyz")?;
+        assert_eq!(rt; base.len(), first.base_length());
+        let reached = first.apply(alloc, &base)?;
+        assert_eq!(rt; reached, repeated(alloc, "abwxyz", count)?);
+        let second = replacing_each(alloc, count, 5, "!")?;
+        assert_eq!(rt; first.result_length(), second.base_length());
+        let both = compose(alloc, &first, &second)?;
+        assert_eq!(rt; both.steps().len(), steps);
+        assert_eq!(rt; base.len(), both.base_length());
+        assert_eq!(rt;
+            both.apply(alloc, &base)?,
+            repeated(alloc, "abwxy!", count)?
+        );
+        let copy = both.copied(alloc)?;
+        assert_eq!(rt; copy.steps().as_slice(), both.steps().as_slice());
+        let all = replace_all(alloc, base.len(), &reached)?;
+        assert_eq!(rt; base.len(), all.base_length());
+        assert_eq!(rt; all.apply(alloc, &base)?, reached);
+    }
     Ok(())
 }

@@ -1,3 +1,11 @@
+//! Steps written in canonical form, group by group: a run that is kept, a text, and a run that is deleted.
+//!
+//! A text that is asked for behind a deletion goes in front of it, into the text of the group; this is
+//! the normal form, which the literature leaves open. A group ends where characters are kept behind a
+//! change.
+//!
+//! It is right since a text in front of a deleted run leaves the same places and new characters as one
+//! behind it (`IsAlike`), and deltas that leave the same have one normal form.
 ghost use Rattle.std.specs.Prelude.{◌≡◌, ◌+◌, ◌^◌, ◌<◌, ◌++◌, IfOk, OnOk};
 ghost use Rattle.delta.specs.Cells.{base_length, joined, keeping, inserting, deleting, nothing, normal};
 ghost use Rattle.delta.specs.Steps.{after_step, step_base, group, cells_of, IsWritten};
@@ -41,6 +49,7 @@ fn sum_of(a: usize, b: usize) -> Result<usize, AllocError>
 
 /// Writes a group behind the steps.
 fn write_group(
+    alloc: Global,
     steps: &mut Vec<DeltaStep>,
     kept: usize,
     text: Vec<char>,
@@ -52,7 +61,7 @@ fn write_group(
         steps.push(DeltaStep::Keep(kept))?;
     }
     if !text.is_empty() {
-        steps.push(DeltaStep::Insert(Text::from_vec(text)))?;
+        steps.push(DeltaStep::Insert(Text::from_vec(alloc, text)?))?;
     }
     if deleted != 0 {
         steps.push(DeltaStep::Delete(deleted))?;
@@ -97,7 +106,7 @@ impl Writer {
                 length,
             });
         }
-        write_group(&mut written, kept, text, deleted)?;
+        write_group(alloc, &mut written, kept, text, deleted)?;
         Ok(Writer {
             written,
             kept: count,
@@ -118,7 +127,7 @@ impl Writer {
             length,
         } = self;
         let length = sum_of(length, added.len())?;
-        text.extend_from_slice(added.as_slice())?;
+        added.append_to(&mut text)?;
         Ok(Writer {
             written,
             kept,
@@ -161,7 +170,7 @@ impl Writer {
     }
 
     /// The list of what was written.
-    fn close(self, base: usize) -> Result<List<DeltaStep>, AllocError>
+    fn close(self, alloc: Global, base: usize) -> Result<List<DeltaStep>, AllocError>
         requires { base ≡ base_length self }
         ensures cells { IfOk result (λ steps. cells_of steps ≡ self) }
         ensures written { IfOk result (λ steps. IsWritten base steps) }
@@ -173,7 +182,7 @@ impl Writer {
             deleted,
             ..
         } = self;
-        write_group(&mut written, kept, text, deleted)?;
+        write_group(alloc, &mut written, kept, text, deleted)?;
         Ok(List::from_vec(written))
     }
 }
@@ -192,6 +201,6 @@ pub(crate) fn write_steps(
     for step in steps {
         writer = writer.write(alloc, step)?;
     }
-    let written = writer.close(base)?;
+    let written = writer.close(alloc, base)?;
     Ok(written)
 }

@@ -12,7 +12,7 @@ fn text_of(alloc: Global, size: usize) -> Result<Text, AllocError> {
     for _ in 0..size {
         chars.push('a')?;
     }
-    Ok(Text::from_vec(chars))
+    Text::from_vec(alloc, chars)
 }
 
 /// A delta on `size` characters with `count` edits, each of which inserts two characters and deletes

@@ -13,7 +13,7 @@ fn lines_of(alloc: Global, size: usize) -> Result<Text, AllocError> {
     for i in 0..size {
         chars.push(if i % LINE == LINE - 1 { '\n' } else { 'a' })?;
     }
-    Ok(Text::from_vec(chars))
+    Text::from_vec(alloc, chars)
 }
 
 /// The lines and characters of `count` positions, those of the last gaps of a text.

@@ -8,7 +8,7 @@ use Rattle.delta.specs.declared.steps.DeltaStep.{DeltaStep}
 use Rattle.delta.specs.declared.steps.DeltaStep.TheVariants.{Keep, Insert, Delete}
 use Rattle.delta.proofs.CellsLemmas.{base_length-covers, base_length-inserts}
 use Rattle.text_position.specs.Places.{IsPlace}
-use Rattle.text_position.specs.Changes.{Change, change_if, edit_for, edits_of, AreApart}
+use Rattle.text_position.specs.Changes.{Change, change_if, edit_for, edits_of, EndsBefore, AreApart}
 use Rattle.text_position.specs.Writing.{change_at_end, changes_ahead}
 use Rattle.text_position.proofs.PlacesLemmas.{place-position_at}
 use Rattle.text_position.proofs.ChangesLemmas.{changes_of-cells_of}
@@ -17,28 +17,29 @@ use Rattle.text_position.proofs.RoundTripLemmas.{backwards, backwards-more, some
 -- the ranges are apart, end before a place, and none starts before another
 abbrev AreBetween : List ℕ → ℕ → ℕ → List TextEdit → Type 0
 AreBetween text low place [] = low ≤ place
-AreBetween text low place (edit ∷ edits) =
-    (start : ℕ) × ((end : ℕ) × (IsPlace text edit.start start × IsPlace text edit.end end × (start ≤ end) × (end < place) × AreBetween text low start edits))
+AreBetween text low place (edit ∷ edits) = EndsBefore text place edit (λ start. AreBetween text low start edits)
+
+-- what is told of the others may be told in another way
+with_others : {text : List ℕ} {place : ℕ} {edit : TextEdit} {Others More : ℕ → Type 0} → (h : EndsBefore text place edit Others) → More h.start → EndsBefore text place edit More
+with_others h others = record { start = h.start; end = h.end; start_is = h.start_is; end_is = h.end_is; forward = h.forward; before = h.before; others = others }
 
 AreApart-between : (text : List ℕ) (low place : ℕ) (edits : List TextEdit) → AreBetween text low place edits → AreApart text place edits
 AreApart-between text low place [] h = tt
 AreApart-between text low place (edit ∷ edits) h =
-    let r = h.1.1 in
-    (h.0, (h.1.0, (r.0, r.1, r.2, r.3, AreApart-between text low h.0 edits r.4)))
+    with_others h (AreApart-between text low h.start edits h.others)
 
 AreBetween-lower : (text : List ℕ) (low high place : ℕ) (edits : List TextEdit) → low ≤ high → AreBetween text high place edits → AreBetween text low place edits
 AreBetween-lower text low high place [] le h = omega (arith, le, h)
 AreBetween-lower text low high place (edit ∷ edits) le h =
-    let r = h.1.1 in
-    (h.0, (h.1.0, (r.0, r.1, r.2, r.3, AreBetween-lower text low high h.0 edits le r.4)))
+    with_others h (AreBetween-lower text low high h.start edits le h.others)
 
-AreBetween-more : (text : List ℕ) (low high place start end : ℕ) (edits : List TextEdit) (edit : TextEdit) → IsPlace text edit.start start → IsPlace text edit.end end → start ≤ end → end < high → low ≤ start
+AreBetween-more : (text : List ℕ) (low high place start end : ℕ) (edits : List TextEdit) (edit : TextEdit) → IsPlace text edit.start start → IsPlace text edit.end end → start ≤ end
+    → end < high → low ≤ start
     → AreBetween text high place edits → AreBetween text low place (edits ++ edit ∷ [])
 AreBetween-more text low high place start end [] edit s e forward before le h =
-    (start, (end, (s, e, forward, omega (arith, before, h), le)))
+    record { start = start; end = end; start_is = s; end_is = e; forward = forward; before = omega (arith, before, h); others = le }
 AreBetween-more text low high place start end (next ∷ edits) edit s e forward before le h =
-    let r = h.1.1 in
-    (h.0, (h.1.0, (r.0, r.1, r.2, r.3, AreBetween-more text low high h.0 start end edits edit s e forward before le r.4)))
+    with_others h (AreBetween-more text low high h.start start end edits edit s e forward before le h.others)
 
 -- the edit of one more change in front
 between-change : (text : List ℕ) (low high gap size : ℕ) (t : List ℕ) (changes : List Change) → gap + size ≤ length text → gap + size < high → low ≤ gap
@@ -47,7 +48,8 @@ between-change text low high gap size t changes within before le h =
     let P : List TextEdit → Type 0 = λ edits. AreBetween text low (length text + 1) edits in
     let change : Change = record { start = gap; end = gap + size; text = t } in
     subst P (sym (backwards-more text change changes))
-    (AreBetween-more text low high (length text + 1) gap (gap + size) (backwards text changes) (edit_for text change) (place-position_at text gap (omega (arith, within))) (place-position_at text (gap + size) within) (omega arith) before le h)
+    (AreBetween-more text low high (length text + 1) gap (gap + size) (backwards text changes) (edit_for text change)
+    (place-position_at text gap (omega (arith, within))) (place-position_at text (gap + size) within) (omega arith) before le h)
 
 -- how far down the edits of the steps from a gap on may start
 abbrev MayStart : ℕ → ℕ → List ℕ → List DeltaStep → Type 0
@@ -79,16 +81,17 @@ between-ahead text low gap waiting [] h long may =
 between-ahead text low gap waiting (Keep n ∷ ss) h long may =
     let base = base_length-covers true n (cells_of ss) in
     let low_fits = lowest low gap waiting (Keep n ∷ ss) may in
-    between-waiting text low (gap + n) gap waiting (changes_ahead (gap + n) [] ss) (omega (arith, long)) (omega (arith, h.0)) (omega (arith, h.0, low_fits)) (room_for low gap waiting (Keep n ∷ ss) may)
-    (between-ahead text (gap + n) (gap + n) [] ss h.2 (omega (arith, long, base)) (inl (omega arith)))
+    between-waiting text low (gap + n) gap waiting (changes_ahead (gap + n) [] ss) (omega (arith, long)) (omega (arith, h.0)) (omega (arith, h.0, low_fits))
+    (room_for low gap waiting (Keep n ∷ ss) may)
+    (between-ahead text (gap + n) (gap + n) [] ss h.1 (omega (arith, long, base)) (inl (omega arith)))
 between-ahead text low gap waiting (Insert t ∷ ss) h long (inr far) = absurd far.2.1
 between-ahead text low gap waiting (Insert t ∷ ss) h long (inl le) =
-    between-ahead text low (gap + 0) t ss h.2 (omega (arith, long, base_length-inserts t (cells_of ss))) (inl (omega (arith, le)))
+    between-ahead text low (gap + 0) t ss h.1 (omega (arith, long, base_length-inserts t (cells_of ss))) (inl (omega (arith, le)))
 between-ahead text low gap waiting (Delete n ∷ ss) h long (inr far) = absurd far.2.1
 between-ahead text low gap waiting (Delete n ∷ ss) h long (inl le) =
     let base = base_length-covers false n (cells_of ss) in
     between-change text low (gap + n + 1) gap n waiting (changes_ahead (gap + n) [] ss) (omega (arith, long, base)) (omega arith) le
-    (between-ahead text (gap + n + 1) (gap + n) [] ss h.2 (omega (arith, long, base)) (inr (omega arith, refl, (n, h.1))))
+    (between-ahead text (gap + n + 1) (gap + n) [] ss h.1 (omega (arith, long, base)) (inr (omega arith, refl, (n, h.0.leads))))
 
 pub edits_of-apart : (text : List ℕ) (ss : List DeltaStep) → IsCanonical ss → base_length (cells_of ss) ≡ length text → AreApart text (length text + 1) (edits_of text (cells_of ss))
 edits_of-apart text ss h long =

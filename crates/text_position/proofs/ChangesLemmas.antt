@@ -2,7 +2,7 @@
 use Rattle.std.proofs.Common.{◌≡◌, ℕ, zero, suc, ◌+◌, ◌<◌, Bool, true, false, ◌&&◌, ◌||◌, not, List, [], ◌∷◌, ◌++◌, length, drop, get_or, map, refl, sym, ap, ◌∙◌, ◌⊎◌, inl, inr, arith, append_assoc}
 use Rattle.std.proofs.lemmas.List.{append-nil, map-append, drop_more}
 use Rattle.tt_base.specs.declared.edits.TextEdit.{TextEdit}
-use Rattle.delta.specs.Cells.{Cell, Cells, front, inserts, covers, is_nothing}
+use Rattle.delta.specs.Cells.{Cell, Cells, inserts, covers, is_nothing}
 use Rattle.delta.specs.Steps.{cells_of, step_base, MayLead, IsCanonical}
 use Rattle.delta.specs.declared.steps.DeltaStep.{DeltaStep}
 use Rattle.delta.specs.declared.steps.DeltaStep.TheVariants.{Keep, Insert, Delete}
@@ -23,22 +23,16 @@ run_of-deleted (suc n) d = omega (arith, run_of-deleted n d)
 -- whether the next step begins with a deleted character
 run_of-steps : (n : ℕ) (ss : List DeltaStep) → IsCanonical ss → MayLead (Delete n) ss → run_of (cells_of ss) ≡ 0
 run_of-steps n [] h lead = refl
-run_of-steps n (Keep zero ∷ ss) h lead = absurd (omega (arith, h.0))
+run_of-steps n (Keep zero ∷ ss) h lead = absurd (omega (arith, h.0.content))
 run_of-steps n (Keep (suc m) ∷ ss) h lead = refl
 run_of-steps n (Insert text ∷ ss) h lead = absurd lead
 run_of-steps n (Delete m ∷ ss) h lead = absurd lead
 
-no_front : (n : ℕ) (ss : List DeltaStep) → IsCanonical ss → MayLead (Delete n) ss → front (cells_of ss) ≡ []
-no_front n [] h lead = refl
-no_front n (Keep zero ∷ ss) h lead = absurd (omega (arith, h.0))
-no_front n (Keep (suc m) ∷ ss) h lead = refl
-no_front n (Insert text ∷ ss) h lead = absurd lead
-no_front n (Delete m ∷ ss) h lead = absurd lead
-
 -- where no run of deleted characters begins, it does not matter what is on the left
 changes-left : (gap : ℕ) (d : Cells) → run_of d ≡ 0 → changes false gap d ≡ changes true gap d
 changes-left gap d none = by_cells d.cells d.last none where
-  by_kept : (k : Bool) (run : ℕ) (b : Bool) (text : List ℕ) → longer_unless k run ≡ 0 → change_if (b || (false && not k)) gap (longer_unless k run) text ≡ change_if (b || (true && not k)) gap (longer_unless k run) text
+  by_kept : (k : Bool) (run : ℕ) (b : Bool) (text : List ℕ) → longer_unless k run ≡ 0
+      → change_if (b || (false && not k)) gap (longer_unless k run) text ≡ change_if (b || (true && not k)) gap (longer_unless k run) text
   by_kept true run b text none = refl
   by_kept false run b text none = absurd (omega (arith, none))
 
@@ -86,22 +80,23 @@ changes-waiting_kept gap n text d =
       either false = refl
 
 -- what is written from the steps are the changes of the delta
-pub changes_ahead-is : (gap : ℕ) (waiting : List ℕ) (ss : List DeltaStep) → IsCanonical ss → (waiting ≡ []) ⊎ MayLead (Insert waiting) ss → changes_ahead gap waiting ss ≡ changes true gap (inserts waiting (cells_of ss))
+pub changes_ahead-is : (gap : ℕ) (waiting : List ℕ) (ss : List DeltaStep) → IsCanonical ss → (waiting ≡ []) ⊎ MayLead (Insert waiting) ss
+    → changes_ahead gap waiting ss ≡ changes true gap (inserts waiting (cells_of ss))
 changes_ahead-is gap waiting [] h ready = ap (change_at_end gap) (sym (append-nil waiting))
-changes_ahead-is gap waiting (Keep zero ∷ ss) h ready = absurd (omega (arith, h.0))
+changes_ahead-is gap waiting (Keep zero ∷ ss) h ready = absurd (omega (arith, h.0.content))
 changes_ahead-is gap waiting (Keep (suc n) ∷ ss) h ready =
-    ap (λ l. change_at_end gap waiting ++ l) (changes_ahead-is (gap + suc n) [] ss h.2 (inl refl) ∙ ap (changes true (gap + suc n)) (inserts_none (cells_of ss)))
+    ap (λ l. change_at_end gap waiting ++ l) (changes_ahead-is (gap + suc n) [] ss h.1 (inl refl) ∙ ap (changes true (gap + suc n)) (inserts_none (cells_of ss)))
     ∙ sym (changes-waiting_kept gap n waiting (cells_of ss))
 changes_ahead-is gap waiting (Insert text ∷ ss) h (inr lead) = absurd lead
 changes_ahead-is gap waiting (Insert text ∷ ss) h (inl none) =
     let same : gap + 0 ≡ gap = omega arith in
     ap (λ g. changes_ahead g text ss) same
-    ∙ changes_ahead-is gap text ss h.2 (inr h.1)
+    ∙ changes_ahead-is gap text ss h.1 (inr h.0.leads)
     ∙ ap (changes true gap) (sym (ap (λ w. inserts w (inserts text (cells_of ss))) none ∙ inserts_none (inserts text (cells_of ss))))
-changes_ahead-is gap waiting (Delete zero ∷ ss) h ready = absurd (omega (arith, h.0))
+changes_ahead-is gap waiting (Delete zero ∷ ss) h ready = absurd (omega (arith, h.0.content))
 changes_ahead-is gap waiting (Delete (suc n) ∷ ss) h ready =
-    ap (λ l. change_if true gap (suc n) waiting ++ l) (changes_ahead-is (gap + suc n) [] ss h.2 (inl refl) ∙ ap (changes true (gap + suc n)) (inserts_none (cells_of ss)))
-    ∙ sym (changes-deleted gap n waiting (cells_of ss) (run_of-steps (suc n) ss h.2 h.1))
+    ap (λ l. change_if true gap (suc n) waiting ++ l) (changes_ahead-is (gap + suc n) [] ss h.1 (inl refl) ∙ ap (changes true (gap + suc n)) (inserts_none (cells_of ss)))
+    ∙ sym (changes-deleted gap n waiting (cells_of ss) (run_of-steps (suc n) ss h.1 h.0.leads))
 
 pub changes_of-cells_of : (ss : List DeltaStep) → IsCanonical ss → changes_ahead 0 [] ss ≡ changes_of (cells_of ss)
 changes_of-cells_of ss h = changes_ahead-is 0 [] ss h (inl refl) ∙ ap changes_of (inserts_none (cells_of ss))

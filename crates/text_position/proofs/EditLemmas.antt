@@ -1,19 +1,15 @@
 -- The delta of one edit, and of a list of edits from one edit on.
-use Rattle.std.proofs.Common.{◌≡◌, ℕ, zero, suc, ◌+◌, ◌-◌, ◌<◌, ◌≤◌, true, false, List, ◌∷◌, length, drop, get_or, Ok, Err, refl, sym, ap, ◌∙◌, ◌⊎◌, inl, inr, arith}
+use Rattle.std.proofs.Common.{◌≡◌, ℕ, zero, suc, ◌+◌, ◌-◌, ◌<◌, ◌≤◌, true, false, List, ◌∷◌, length, drop, get_or, Result, Ok, Err, refl, sym, ap, ◌∙◌, ◌⊎◌, inl, inr, arith}
 use Rattle.std.proofs.lemmas.List.{drop_more}
+use Rattle.tt_base.specs.Answers.{and_then}
 use Rattle.tt_base.specs.declared.edits.TextEdit.{TextEdit}
-use Rattle.delta.specs.Cells.{Cells, base_length, result_length, covers, inserts, joined, nothing, keeping, inserting, deleting, applied, changes_nothing, IsNormal}
+use Rattle.delta.specs.Cells.{Cells, base_length, covers, inserts, joined, nothing, keeping, inserting, deleting, applied, IsNormal}
 use Rattle.delta.specs.Marks.{composed}
-use Rattle.delta.proofs.CellsLemmas.{inserts_none, joined-covers, joined-inserts, base_length-joined, base_length-covers, base_length-inserts}
-use Rattle.delta.proofs.StepsLemmas.{IsNormal-inserted, IsNormal-deleted}
-use Rattle.delta.proofs.LawLemmas.{applied-nothing, length-applied}
-use Rattle.text_position.specs.Edits.{Reading, and_then, replacing, delta_of_edit, with_edits}
+use Rattle.delta.proofs.CellsLemmas.{inserts_none, joined-covers, joined-inserts, base_length-covers, base_length-inserts}
+use Rattle.delta.proofs.StepsLemmas.{IsNormal-kept, IsNormal-inserted, IsNormal-deleted}
+use Rattle.text_position.specs.Edits.{replacing, delta_of_edit, with_edits}
 use Rattle.text_position.specs.declared.faults.EditsFault.{EditsFault}
 use Rattle.text_position.specs.declared.faults.EditsFault.TheVariants.{Memory}
-
-pub IsNormal-kept : (n : ℕ) (d : Cells) → IsNormal d → IsNormal (covers true n d)
-IsNormal-kept zero d h = h
-IsNormal-kept (suc n) d h = (tt, IsNormal-kept n d h)
 
 pub IsNormal-change : (start size : ℕ) (text : List ℕ) (d : Cells) → IsNormal (covers false size d) → IsNormal (covers true start (inserts text (covers false size d)))
 IsNormal-change start size text d h = IsNormal-kept start _ (IsNormal-inserted text _ h)
@@ -34,16 +30,7 @@ pub base_length-replacing : (size start end : ℕ) (text : List ℕ) → start �
 base_length-replacing size start end text forward within =
     omega (arith, base_length-change start (end - start) text (keeping (size - end)), base_length-covers true (size - end) nothing)
 
--- what a builder has behind each of its calls
-pub base_length-keep : (d e : Cells) (n : ℕ) → e ≡ joined d (keeping n) → base_length e ≡ base_length d + n
-base_length-keep d e n is = omega (arith, ap base_length is, base_length-joined d (keeping n), base_length-covers true n nothing)
-
-pub base_length-insert : (d e : Cells) (t : List ℕ) → e ≡ joined d (inserting t) → base_length e ≡ base_length d
-base_length-insert d e t is = omega (arith, ap base_length is, base_length-joined d (inserting t))
-
-pub base_length-delete : (d e : Cells) (n : ℕ) → e ≡ joined d (deleting n) → base_length e ≡ base_length d + n
-base_length-delete d e n is = omega (arith, ap base_length is, base_length-joined d (deleting n), base_length-covers false n nothing)
-
+-- what a builder has behind calls in a row
 pub built_keep : (n : ℕ) (a b : Cells) → a ≡ nothing → b ≡ joined a (keeping n) → b ≡ keeping n
 built_keep n a b a_is b_is = b_is ∙ ap (λ d. joined d (keeping n)) a_is ∙ inserts_none (keeping n)
 
@@ -60,42 +47,36 @@ built_change s n m t a b c d e a_is b_is c_is d_is e_is =
     ∙ ap (covers true s) (joined-inserts t (deleting n) (keeping m)
     ∙ ap (inserts t) (joined-covers false n nothing (keeping m) ∙ ap (covers false n) (inserts_none (keeping m))))
 
--- a delta that changes nothing reaches the text itself
-pub reached_nothing : (d : Cells) (text : List ℕ) → changes_nothing d ≡ true → length text ≡ base_length d → text ≡ applied d text
-reached_nothing d text none size = sym (applied-nothing d text none (sym size))
-
-pub length_nothing : (d : Cells) (text : List ℕ) → changes_nothing d ≡ true → length text ≡ base_length d → length text ≡ result_length d
-length_nothing d text none size = ap length (reached_nothing d text none size) ∙ length-applied d text (sym size)
-
 -- the next edit of a list, where it has a delta, and where it is refused
-then_ok : (index : ℕ) (text : List ℕ) (so_far next : Cells) (edits : List TextEdit) (r : Reading Cells)
+then_ok : (index : ℕ) (text : List ℕ) (so_far next : Cells) (edits : List TextEdit) (r : Result Cells EditsFault)
     → and_then r (λ d. Ok (composed so_far d)) ≡ Ok next → and_then r (λ d. with_edits (index + 1) text (composed so_far d) edits) ≡ with_edits (index + 1) text next edits
 then_ok index text so_far next edits (Ok d) e =
     let same : composed so_far d ≡ next = cc in ap (λ n. with_edits (index + 1) text n edits) same
 then_ok index text so_far next edits (Err fault) e = absurd (cc)
 
-then_refused : (index : ℕ) (text : List ℕ) (so_far : Cells) (edits : List TextEdit) (r : Reading Cells) (fault : EditsFault)
+then_refused : (index : ℕ) (text : List ℕ) (so_far : Cells) (edits : List TextEdit) (r : Result Cells EditsFault) (fault : EditsFault)
     → and_then r (λ d. Ok (composed so_far d)) ≡ Err fault → and_then r (λ d. with_edits (index + 1) text (composed so_far d) edits) ≡ Err fault
 then_refused index text so_far edits (Ok d) fault e = absurd (cc)
 then_refused index text so_far edits (Err other) fault e = let same : other ≡ fault = cc in ap Err same
 
-with_edits-drop : (index : ℕ) (text : List ℕ) (so_far : Cells) (edits : List TextEdit) (edit : TextEdit) → index < length edits → edit ≡ get_or edits index edit
-    → with_edits index text so_far (drop index edits) ≡ with_edits index text so_far (edit ∷ drop (index + 1) edits)
-with_edits-drop index text so_far edits edit lt is =
-    ap (with_edits index text so_far) (drop_more edits index edit lt ∙ ap (λ e. e ∷ drop (index + 1) edits) (sym is))
+with_edits-drop : (index place : ℕ) (text : List ℕ) (so_far : Cells) (edits : List TextEdit) (edit : TextEdit) → place < length edits → edit ≡ get_or edits place edit
+    → with_edits index text so_far (drop place edits) ≡ with_edits index text so_far (edit ∷ drop (place + 1) edits)
+with_edits-drop index place text so_far edits edit lt is =
+    ap (with_edits index text so_far) (drop_more edits place edit lt ∙ ap (λ e. e ∷ drop (place + 1) edits) (sym is))
 
-pub with_edits-next : (index : ℕ) (text : List ℕ) (so_far next : Cells) (edits : List TextEdit) (edit : TextEdit) (whole : Reading Cells) → index < length edits → edit ≡ get_or edits index edit
-    → and_then (delta_of_edit index (applied so_far text) edit) (λ d. Ok (composed so_far d)) ≡ Ok next → with_edits index text so_far (drop index edits) ≡ whole → with_edits (index + 1) text next (drop (index + 1) edits) ≡ whole
-with_edits-next index text so_far next edits edit whole lt is one all =
-    sym (then_ok index text so_far next (drop (index + 1) edits) (delta_of_edit index (applied so_far text) edit) one)
-    ∙ sym (with_edits-drop index text so_far edits edit lt is)
+pub with_edits-next : (index place : ℕ) (text : List ℕ) (so_far next : Cells) (edits : List TextEdit) (edit : TextEdit) (whole : Result Cells EditsFault)
+    → place < length edits → edit ≡ get_or edits place edit → and_then (delta_of_edit index (applied so_far text) edit) (λ d. Ok (composed so_far d)) ≡ Ok next
+    → with_edits index text so_far (drop place edits) ≡ whole → with_edits (index + 1) text next (drop (place + 1) edits) ≡ whole
+with_edits-next index place text so_far next edits edit whole lt is one all =
+    sym (then_ok index text so_far next (drop (place + 1) edits) (delta_of_edit index (applied so_far text) edit) one)
+    ∙ sym (with_edits-drop index place text so_far edits edit lt is)
     ∙ all
 
-pub with_edits-refused : (index : ℕ) (text : List ℕ) (so_far : Cells) (edits : List TextEdit) (edit : TextEdit) (whole : Reading Cells) (fault : EditsFault) → index < length edits → edit ≡ get_or edits index edit
-    → (and_then (delta_of_edit index (applied so_far text) edit) (λ d. Ok (composed so_far d)) ≡ Err fault) ⊎ (fault ≡ Memory) → with_edits index text so_far (drop index edits) ≡ whole
-    → (whole ≡ Err fault) ⊎ (fault ≡ Memory)
-with_edits-refused index text so_far edits edit whole fault lt is (inl one) all =
+pub with_edits-refused : (index place : ℕ) (text : List ℕ) (so_far : Cells) (edits : List TextEdit) (edit : TextEdit) (whole : Result Cells EditsFault) (fault : EditsFault)
+    → place < length edits → edit ≡ get_or edits place edit → (and_then (delta_of_edit index (applied so_far text) edit) (λ d. Ok (composed so_far d)) ≡ Err fault) ⊎ (fault ≡ Memory)
+    → with_edits index text so_far (drop place edits) ≡ whole → (whole ≡ Err fault) ⊎ (fault ≡ Memory)
+with_edits-refused index place text so_far edits edit whole fault lt is (inl one) all =
     inl (sym all
-    ∙ with_edits-drop index text so_far edits edit lt is
-    ∙ then_refused index text so_far (drop (index + 1) edits) (delta_of_edit index (applied so_far text) edit) fault one)
-with_edits-refused index text so_far edits edit whole fault lt is (inr memory) all = inr memory
+    ∙ with_edits-drop index place text so_far edits edit lt is
+    ∙ then_refused index text so_far (drop (place + 1) edits) (delta_of_edit index (applied so_far text) edit) fault one)
+with_edits-refused index place text so_far edits edit whole fault lt is (inr memory) all = inr memory

@@ -1,28 +1,26 @@
 -- What a list of edits does to a text, and which edit is refused.
-use Rattle.std.proofs.Common.{◌≡◌, ℕ, suc, ◌+◌, ◌-◌, ◌≤◌, Bool, true, false, List, [], ◌∷◌, ◌++◌, length, take, drop, Option, Some, None, Ok, Err, nat_le, refl, sym, ap, subst, ◌∙◌, inl, inr, arith}
+use Rattle.std.proofs.Common.{◌≡◌, ℕ, suc, ◌+◌, ◌-◌, ◌≤◌, Bool, true, false, List, [], ◌∷◌, ◌++◌, length, take}
+use Rattle.std.proofs.Common.{drop, Option, Some, None, Result, Ok, Err, nat_le, refl, sym, ap, subst, ◌∙◌, ◌⊎◌, inl, inr, arith}
 use Rattle.std.specs.Prelude.{if◌then◌else◌}
-use Rattle.std.proofs.lemmas.List.{append-nil, take_all, drop-drop, length-drop}
+use Rattle.std.proofs.lemmas.List.{drop-drop, length-drop}
 use Rattle.std.proofs.lemmas.Bool.{leb-true, leb-false, lt-leb}
+use Rattle.tt_base.specs.Answers.{and_then}
 use Rattle.tt_base.specs.declared.edits.Position.{Position}
 use Rattle.tt_base.specs.declared.edits.TextEdit.{TextEdit}
-use Rattle.delta.specs.Cells.{Cells, base_length, covers, inserts, nothing, keeping, applied}
+use Rattle.delta.specs.Cells.{Cells, base_length, covers, inserts, nothing, keeping, normal, applied}
 use Rattle.delta.specs.Marks.{composed}
 use Rattle.delta.proofs.CellsLemmas.{base_length-covers}
-use Rattle.delta.proofs.ApplyLemmas.{applied-inserts, applied-kept, applied-deleted}
-use Rattle.delta.proofs.ComposedLemmas.{applied-composed, base_length-composed}
+use Rattle.delta.proofs.ApplyLemmas.{applied-inserts, applied-kept, applied-deleted, applied-keeping}
+use Rattle.delta.proofs.ComposedLemmas.{applied-composed, base_length-composed, composed-keeping}
+use Rattle.delta.proofs.NormalLemmas.{normal_is_fixed}
 use Rattle.text_position.specs.Places.{IsPlace, offset_at}
-use Rattle.text_position.specs.Edits.{Reading, and_then, replacing, range_between, delta_of_edit, with_edits, delta_of_edits, LeadInTurn}
-use Rattle.text_position.specs.declared.faults.EditsFault.TheVariants.{BadPosition, BackwardRange}
+use Rattle.text_position.specs.Edits.{replacing, range_between, delta_of_edit, with_edits, delta_of_edits, LeadInTurn}
+use Rattle.text_position.specs.declared.faults.EditsFault.TheVariants.{BadPosition, BackwardRange, Memory}
 use Rattle.text_position.specs.Laws.{IsNoRange, IsRefusedAt}
 use Rattle.text_position.specs.declared.faults.EditsFault.{EditsFault}
 use Rattle.text_position.proofs.PlacesLemmas.{offset_at-place, place-offset_at, place-within, no_place}
+use Rattle.text_position.proofs.EditLemmas.{base_length-replacing, IsNormal-replacing}
 use Rattle.text_position.proofs.RoundTripLemmas.{with_edits-append}
-
-applied-all : (n : ℕ) (text : List ℕ) → length text ≡ n → applied (keeping n) text ≡ text
-applied-all n text long =
-    applied-kept n nothing text (omega (arith, long))
-    ∙ append-nil (take n text)
-    ∙ take_all n text (omega (arith, long))
 
 -- the delta of one replacement replaces the characters
 pub applied-replacing : (text : List ℕ) (start end : ℕ) (t : List ℕ) → start ≤ end → end ≤ length text → applied (replacing (length text) start end t) text ≡ take start text ++ (t ++ drop end text)
@@ -35,7 +33,7 @@ applied-replacing text start end t forward within =
     ∙ ap (λ l. take start text ++ l) (applied-inserts t (covers false (end - start) (keeping (length text - end))) left
     ∙ ap (λ l. t ++ l) (applied-deleted (end - start) (keeping (length text - end)) left (omega (arith, size))
     ∙ ap (applied (keeping (length text - end))) behind
-    ∙ applied-all (length text - end) (drop end text) (length-drop end text)))
+    ∙ applied-keeping (length text - end) (drop end text) (length-drop end text)))
 
 -- an edit that has a delta
 record IsGood (text : List ℕ) (edit : TextEdit) (d : Cells) : Type 0 where
@@ -48,7 +46,8 @@ record IsGood (text : List ℕ) (edit : TextEdit) (d : Cells) : Type 0 where
 
 good_edit : (index : ℕ) (text : List ℕ) (edit : TextEdit) (d : Cells) → delta_of_edit index text edit ≡ Ok d → IsGood text edit d
 good_edit index text edit d e = by_places (offset_at text edit.start) (offset_at text edit.end) refl refl e where
-  by_order : (s t : ℕ) → offset_at text edit.start ≡ Some s → offset_at text edit.end ≡ Some t → (b : Bool) → nat_le s t ≡ b → and_then {T = ℕ × ℕ} (if b then Ok (s, t) else Err (BackwardRange index)) (λ range. Ok (replacing (length text) range.0 range.1 edit.replacement)) ≡ Ok d → IsGood text edit d
+  by_order : (s t : ℕ) → offset_at text edit.start ≡ Some s → offset_at text edit.end ≡ Some t → (b : Bool) → nat_le s t ≡ b
+      → and_then {T = ℕ × ℕ} (if b then Ok (s, t) else Err (BackwardRange index)) (λ range. Ok (replacing (length text) range.0 range.1 edit.replacement)) ≡ Ok d → IsGood text edit d
   by_order s t start end true test e = record {
     start = s;
     end = t;
@@ -59,44 +58,44 @@ good_edit index text edit d e = by_places (offset_at text edit.start) (offset_at
   }
   by_order s t start end false test e = absurd (cc)
 
-  by_places : (o p : Option ℕ) → offset_at text edit.start ≡ o → offset_at text edit.end ≡ p → and_then (range_between index o p) (λ range. Ok (replacing (length text) range.0 range.1 edit.replacement)) ≡ Ok d → IsGood text edit d
+  by_places : (o p : Option ℕ) → offset_at text edit.start ≡ o → offset_at text edit.end ≡ p
+      → and_then (range_between index o p) (λ range. Ok (replacing (length text) range.0 range.1 edit.replacement)) ≡ Ok d → IsGood text edit d
   by_places None p start end e = absurd (cc)
   by_places (Some s) None start end e = absurd (cc)
   by_places (Some s) (Some t) start end e = by_order s t start end (nat_le s t) refl e
 
-lead_in_turn : (index : ℕ) (text : List ℕ) (so_far : Cells) (edits : List TextEdit) (d : Cells) → base_length so_far ≡ length text → with_edits index text so_far edits ≡ Ok d → LeadInTurn (applied so_far text) edits (applied d text)
+lead_in_turn : (index : ℕ) (text : List ℕ) (so_far : Cells) (edits : List TextEdit) (d : Cells) → base_length so_far ≡ length text → with_edits index text so_far edits ≡ Ok d
+    → LeadInTurn (applied so_far text) edits (applied d text)
 lead_in_turn index text so_far [] d long e = let is : d ≡ so_far = cc in ap (λ x. applied x text) is
 lead_in_turn index text so_far (edit ∷ edits) d long e =
     by_edit (delta_of_edit index (applied so_far text) edit) refl e (λ (x : Cells). lead_in_turn (index + 1) text (composed so_far x) edits d (base_length-composed so_far x ∙ long)) where
-      by_edit : (r : Reading Cells) → delta_of_edit index (applied so_far text) edit ≡ r → and_then r (λ x. with_edits (index + 1) text (composed so_far x) edits) ≡ Ok d
+      by_edit : (r : Result Cells EditsFault) → delta_of_edit index (applied so_far text) edit ≡ r → and_then r (λ x. with_edits (index + 1) text (composed so_far x) edits) ≡ Ok d
           → ((x : Cells) → with_edits (index + 1) text (composed so_far x) edits ≡ Ok d → LeadInTurn (applied (composed so_far x) text) edits (applied d text))
           → LeadInTurn (applied so_far text) (edit ∷ edits) (applied d text)
       by_edit (Err fault) is e rest = absurd (cc)
       by_edit (Ok x) is e rest =
           let reached : List ℕ = applied so_far text in
           let good = good_edit index reached edit x is in
-          let within = place-within reached edit.end good.end good.end_is in (
-            applied (composed so_far x) text,
-            (
-              record {
-                start = good.start;
-                end = good.end;
-                start_is = good.start_is;
-                end_is = good.end_is;
-                forward = good.forward;
-                after_is =
-                    applied-composed so_far x text long
-                    ∙ ap (λ y. applied y reached) good.delta_is
-                    ∙ applied-replacing reached good.start good.end edit.replacement good.forward within;
-              },
-              rest x e,
-            ),
-          )
+          let within = place-within reached edit.end good.end good.end_is in record {
+            reached = applied (composed so_far x) text;
+            leads = record {
+              start = good.start;
+              end = good.end;
+              start_is = good.start_is;
+              end_is = good.end_is;
+              forward = good.forward;
+              after_is =
+                  applied-composed so_far x text long
+                  ∙ ap (λ y. applied y reached) good.delta_is
+                  ∙ applied-replacing reached good.start good.end edit.replacement good.forward within;
+            };
+            rest = rest x e;
+          }
 
 pub edits_lead_in_turn : (text : List ℕ) (edits : List TextEdit) (d : Cells) → delta_of_edits text edits ≡ Ok d → LeadInTurn text edits (applied d text)
 edits_lead_in_turn text edits d e =
     let P : List ℕ → Type 0 = λ t. LeadInTurn t edits (applied d text) in
-    subst P (applied-all (length text) text refl)
+    subst P (applied-keeping (length text) text refl)
     (lead_in_turn 0 text (keeping (length text)) edits d (omega (arith, base_length-covers true (length text) nothing)) e)
 
 -- an edit that has no delta
@@ -106,7 +105,7 @@ bad_edit index text edit fault e = by_places (offset_at text edit.start) (offset
       → and_then {T = ℕ × ℕ} (if b then Ok (s, t) else Err (BackwardRange index)) (λ range. Ok (replacing (length text) range.0 range.1 edit.replacement)) ≡ Err fault → IsNoRange text edit index fault
   by_order s t start end true test e = absurd (cc)
   by_order s t start end false test e =
-      inr (cc, (s, (t, (place-offset_at text edit.start s start, place-offset_at text edit.end t end, leb-false s t test))))
+      inr (cc, record { start = s; end = t; start_is = place-offset_at text edit.start s start; end_is = place-offset_at text edit.end t end; backward = leb-false s t test })
 
   by_places : (o p : Option ℕ) → offset_at text edit.start ≡ o → offset_at text edit.end ≡ p
       → and_then (range_between index o p) (λ range. Ok (replacing (length text) range.0 range.1 edit.replacement)) ≡ Err fault → IsNoRange text edit index fault
@@ -128,7 +127,7 @@ refused_from : (index : ℕ) (text : List ℕ) (so_far : Cells) (edits : List Te
 refused_from index text so_far [] fault e = absurd (cc)
 refused_from index text so_far (edit ∷ edits) fault e =
     by_edit (delta_of_edit index (applied so_far text) edit) refl e (λ (x : Cells). refused_from (index + 1) text (composed so_far x) edits fault) where
-      by_edit : (r : Reading Cells) → delta_of_edit index (applied so_far text) edit ≡ r → and_then r (λ x. with_edits (index + 1) text (composed so_far x) edits) ≡ Err fault
+      by_edit : (r : Result Cells EditsFault) → delta_of_edit index (applied so_far text) edit ≡ r → and_then r (λ x. with_edits (index + 1) text (composed so_far x) edits) ≡ Err fault
           → ((x : Cells) → with_edits (index + 1) text (composed so_far x) edits ≡ Err fault → IsRefusedFrom (index + 1) text (composed so_far x) edits fault)
           → IsRefusedFrom index text so_far (edit ∷ edits) fault
       by_edit (Err cause) is e rest =
@@ -191,10 +190,12 @@ edit_of_bad index text edit fault (inl (bad, inr none)) =
       by_start : (o : Option ℕ) → and_then {U = Cells} (range_between index o None) (λ range. Ok (replacing (length text) range.0 range.1 edit.replacement)) ≡ Err (BadPosition index)
       by_start None = refl
       by_start (Some s) = refl
-edit_of_bad index text edit fault (inr (bad, (s, (t, h)))) =
-    ap (λ o. and_then (range_between index o (offset_at text edit.end)) (λ range. Ok (replacing (length text) range.0 range.1 edit.replacement))) (offset_at-place text edit.start s h.0)
-    ∙ ap (λ o. and_then (range_between index (Some s) o) (λ range. Ok (replacing (length text) range.0 range.1 edit.replacement))) (offset_at-place text edit.end t h.1)
-    ∙ ap (λ b. and_then {T = ℕ × ℕ} (if b then Ok (s, t) else Err (BackwardRange index)) (λ range. Ok (replacing (length text) range.0 range.1 edit.replacement))) (lt-leb s t h.2)
+edit_of_bad index text edit fault (inr (bad, h)) =
+    let s : ℕ = h.start in
+    let t : ℕ = h.end in
+    ap (λ o. and_then (range_between index o (offset_at text edit.end)) (λ range. Ok (replacing (length text) range.0 range.1 edit.replacement))) (offset_at-place text edit.start s h.start_is)
+    ∙ ap (λ o. and_then (range_between index (Some s) o) (λ range. Ok (replacing (length text) range.0 range.1 edit.replacement))) (offset_at-place text edit.end t h.end_is)
+    ∙ ap (λ b. and_then {T = ℕ × ℕ} (if b then Ok (s, t) else Err (BackwardRange index)) (λ range. Ok (replacing (length text) range.0 range.1 edit.replacement))) (lt-leb s t h.backward)
     ∙ ap Err (sym bad)
 
 pub first_bad_is_refused : (text : List ℕ) (edits : List TextEdit) (fault : EditsFault) → IsRefusedAt text edits fault → delta_of_edits text edits ≡ Err fault
@@ -204,3 +205,29 @@ first_bad_is_refused text edits fault h =
     ∙ with_edits-append 0 text (keeping (length text)) h.so_far h.before (h.edit ∷ h.behind) h.before_is_good
     ∙ ap (λ i. with_edits i text h.so_far (h.edit ∷ h.behind)) sum
     ∙ ap (λ r. and_then r (λ x. with_edits (length h.before + 1) text (composed h.so_far x) h.behind)) (edit_of_bad (length h.before) (applied h.so_far text) h.edit fault h.no_range)
+
+-- the first edit of a list needs neither the delta that keeps all nor another text
+pub first_edit : (text : List ℕ) (edit : TextEdit) (edits : List TextEdit) (d : Cells) → delta_of_edit 0 text edit ≡ Ok d → with_edits 1 text d edits ≡ delta_of_edits text (edit ∷ edits)
+first_edit text edit edits d is =
+    let n : ℕ = length text in
+    let good = good_edit 0 text edit d is in
+    let within : good.end ≤ n = place-within text edit.end good.end good.end_is in
+    let base : base_length d ≡ n = ap base_length good.delta_is ∙ base_length-replacing n good.start good.end edit.replacement good.forward within in
+    let one : Cells = replacing n good.start good.end edit.replacement in
+    let normal_d : normal d ≡ d =
+    ap normal good.delta_is ∙ normal_is_fixed one (IsNormal-replacing n good.start good.end edit.replacement) ∙ sym good.delta_is in
+    let same : composed (keeping n) d ≡ d = ap (λ m. composed (keeping m) d) (sym base) ∙ composed-keeping d ∙ normal_d in
+    ap (λ e. with_edits 1 text e edits) (sym same)
+    ∙ ap (λ r. and_then r (λ x. with_edits 1 text (composed (keeping n) x) edits)) (sym is)
+    ∙ ap (λ t. and_then (delta_of_edit 0 t edit) (λ x. with_edits 1 text (composed (keeping n) x) edits)) (sym (applied-keeping n text refl))
+
+pub first_refused : (text : List ℕ) (edit : TextEdit) (edits : List TextEdit) (fault : EditsFault) → delta_of_edit 0 text edit ≡ Err fault → delta_of_edits text (edit ∷ edits) ≡ Err fault
+first_refused text edit edits fault is =
+    let n : ℕ = length text in
+    ap (λ t. and_then (delta_of_edit 0 t edit) (λ x. with_edits 1 text (composed (keeping n) x) edits)) (applied-keeping n text refl)
+    ∙ ap (λ r. and_then r (λ x. with_edits 1 text (composed (keeping n) x) edits)) is
+
+pub first_gives_refusal : (text : List ℕ) (edits : List TextEdit) (edit : TextEdit) (rest : List TextEdit) (fault : EditsFault) → edits ≡ edit ∷ rest
+    → (delta_of_edit 0 text edit ≡ Err fault) ⊎ (fault ≡ Memory) → (delta_of_edits text edits ≡ Err fault) ⊎ (fault ≡ Memory)
+first_gives_refusal text edits edit rest fault cut (inl is) = inl (ap (delta_of_edits text) cut ∙ first_refused text edit rest fault is)
+first_gives_refusal text edits edit rest fault cut (inr memory) = inr memory

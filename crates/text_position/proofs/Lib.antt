@@ -7,3 +7,4 @@ pub mod ApartLemmas
 pub mod LawLemmas
 pub mod StepsOfLemmas
 pub mod Rows
+pub mod LineLemmas

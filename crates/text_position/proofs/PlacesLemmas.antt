@@ -1,12 +1,14 @@
 -- The place of a position, computed and by its definition, and that places and positions answer each
 -- other.
-use Rattle.std.proofs.Common.{◌≡◌, ℕ, zero, suc, ◌+◌, ◌<◌, ◌≤◌, Bool, true, false, List, [], ◌∷◌, ◌++◌, length, take, drop, Option, Some, None, nat_le, refl, sym, ap, ◌∙◌, ◌⊎◌, inl, inr, arith, append_assoc, length-append}
+use Rattle.std.proofs.Common.{◌≡◌, ℕ, zero, suc, ◌+◌, ◌<◌, ◌≤◌, Bool, true, false, List, [], ◌∷◌, ◌++◌, length}
+use Rattle.std.proofs.Common.{take, drop, Option, Some, None, nat_le, refl, sym, ap, ◌∙◌, ◌⊎◌, inl, inr, arith, append_assoc, length-append}
 use Rattle.std.specs.Prelude.{option_map, option_and_then, if◌then◌else◌}
 use Rattle.std.proofs.lemmas.List.{take_at, drop_at, take-append-drop, length-take-le}
 use Rattle.std.proofs.lemmas.Bool.{le-leb, leb-true}
 use Rattle.delta.specs.Cells.{one_if}
 use Rattle.tt_base.specs.declared.edits.Position.{Position}
-use Rattle.text_position.specs.Places.{is_line_end, line_ends, IsWholeLines, IsPlace, line_start, line_length, offset_in_line, offset_at, position_behind_char, position_behind, first_position, position_at}
+use Rattle.text_position.specs.Places.{is_line_end, line_ends, IsWholeLines, IsPlace, line_start, line_length}
+use Rattle.text_position.specs.Places.{offset_in_line, offset_at, position_behind_char, position_behind, first_position, position_at}
 
 whole_behind : (ch : ℕ) (lines : List ℕ) → IsWholeLines (ch ∷ lines) → IsWholeLines lines
 whole_behind ch [] h = tt
@@ -19,7 +21,7 @@ some_line_end ch [] h = by_end (is_line_end ch) h where
   by_end false h = absurd (cc)
 some_line_end ch (next ∷ lines) h = omega (arith, some_line_end next lines h)
 
-line_start-lines : (lines rest : List ℕ) (n : ℕ) → IsWholeLines lines → line_ends lines ≡ n → line_start (lines ++ rest) n ≡ Some (length lines)
+pub line_start-lines : (lines rest : List ℕ) (n : ℕ) → IsWholeLines lines → line_ends lines ≡ n → line_start (lines ++ rest) n ≡ Some (length lines)
 line_start-lines [] rest zero h e = refl
 line_start-lines [] rest (suc n) h e = absurd (omega (arith, e))
 line_start-lines (ch ∷ lines) rest zero h e = absurd (omega (arith, e, some_line_end ch lines h))
@@ -30,7 +32,7 @@ line_start-lines (ch ∷ lines) rest (suc n) h e =
       by_end true e found = ap (option_map suc) (found n (omega (arith, e)))
       by_end false e found = ap (option_map suc) (found (suc n) (omega (arith, e)))
 
-line_length-before : (before behind : List ℕ) → line_ends before ≡ 0 → length before ≤ line_length (before ++ behind)
+pub line_length-before : (before behind : List ℕ) → line_ends before ≡ 0 → length before ≤ line_length (before ++ behind)
 line_length-before [] behind e = omega arith
 line_length-before (ch ∷ before) behind e = by_end (is_line_end ch) e (line_length-before before behind) where
   by_end : (b : Bool) → one_if b + line_ends before ≡ 0 → (line_ends before ≡ 0 → length before ≤ line_length (before ++ behind))
@@ -38,14 +40,14 @@ line_length-before (ch ∷ before) behind e = by_end (is_line_end ch) e (line_le
   by_end true e fits = absurd (omega (arith, e))
   by_end false e fits = omega (arith, fits (omega (arith, e)))
 
-line_length-le : (text : List ℕ) → line_length text ≤ length text
+pub line_length-le : (text : List ℕ) → line_length text ≤ length text
 line_length-le [] = omega arith
 line_length-le (ch ∷ text) = by_end (is_line_end ch) (line_length-le text) where
   by_end : (b : Bool) → line_length text ≤ length text → (if b then 0 else suc (line_length text)) ≤ suc (length text)
   by_end true fits = omega arith
   by_end false fits = omega arith
 
-one_line-take : (text : List ℕ) (n : ℕ) → n ≤ line_length text → line_ends (take n text) ≡ 0
+pub one_line-take : (text : List ℕ) (n : ℕ) → n ≤ line_length text → line_ends (take n text) ≡ 0
 one_line-take text zero h = refl
 one_line-take [] (suc n) h = refl
 one_line-take (ch ∷ text) (suc n) h = by_end (is_line_end ch) h (one_line-take text n) where
@@ -54,13 +56,13 @@ one_line-take (ch ∷ text) (suc n) h = by_end (is_line_end ch) h (one_line-take
   by_end false h none = omega (arith, none (omega (arith, h)))
 
 -- where a line begins
-record IsLineStart (text : List ℕ) (n start : ℕ) : Type 0 where
-  lines : List ℕ
-  rest : List ℕ
-  cut : text ≡ lines ++ rest
-  whole : IsWholeLines lines
-  line : line_ends lines ≡ n
-  start_is : length lines ≡ start
+pub record IsLineStart (text : List ℕ) (n start : ℕ) : Type 0 where
+  pub lines : List ℕ
+  pub rest : List ℕ
+  pub cut : text ≡ lines ++ rest
+  pub whole : IsWholeLines lines
+  pub line : line_ends lines ≡ n
+  pub start_is : length lines ≡ start
 
 more_whole : (ch : ℕ) (lines : List ℕ) → IsWholeLines lines → (is_line_end ch ≡ true) ⊎ (0 < line_ends lines) → IsWholeLines (ch ∷ lines)
 more_whole ch [] h (inl e) = e
@@ -71,7 +73,7 @@ more_from : (o : Option ℕ) (s : ℕ) → option_map suc o ≡ Some s → (t : 
 more_from None s e = absurd (cc)
 more_from (Some t) s e = (t, (refl, cc))
 
-line_start-is : (text : List ℕ) (n start : ℕ) → line_start text n ≡ Some start → IsLineStart text n start
+pub line_start-is : (text : List ℕ) (n start : ℕ) → line_start text n ≡ Some start → IsLineStart text n start
 line_start-is text zero start e = record { lines = []; rest = text; cut = refl; whole = tt; line = refl; start_is = cc }
 line_start-is [] (suc n) start e = absurd (cc)
 line_start-is (ch ∷ text) (suc n) start e = by_end (is_line_end ch) refl e (line_start-is text) where
@@ -132,7 +134,8 @@ place-offset_at text p offset e = by_start (line_start text p.line) refl e where
         offset_is = omega (arith, size, l.start_is, sum);
       }
 
-  by_test : (start : ℕ) → line_start text p.line ≡ Some start → (b : Bool) → nat_le p.character (line_length (drop start text)) ≡ b → (if b then Some (start + p.character) else None) ≡ Some offset → IsPlace text p offset
+  by_test : (start : ℕ) → line_start text p.line ≡ Some start → (b : Bool) → nat_le p.character (line_length (drop start text)) ≡ b
+      → (if b then Some (start + p.character) else None) ≡ Some offset → IsPlace text p offset
   by_test start is true test e = at_line start is (leb-true p.character (line_length (drop start text)) test) (cc)
   by_test start is false test e = absurd (cc)
 
@@ -147,7 +150,8 @@ pub position_behind-append : (p : Position) (a b : List ℕ) → position_behind
 position_behind-append p [] b = refl
 position_behind-append p (ch ∷ a) b = position_behind-append (position_behind_char (is_line_end ch) p) a b
 
-behind_one_line : (line character : ℕ) (text : List ℕ) → line_ends text ≡ 0 → position_behind (record { line = line; character = character }) text ≡ record { line = line; character = character + length text }
+behind_one_line : (line character : ℕ) (text : List ℕ) → line_ends text ≡ 0
+    → position_behind (record { line = line; character = character }) text ≡ record { line = line; character = character + length text }
 behind_one_line line character [] e = let same : character ≡ character + 0 = omega arith in ap (λ c. record { line = line; character = c }) same
 behind_one_line line character (ch ∷ text) e = by_end (is_line_end ch) e (behind_one_line line (character + 1) text) where
   by_end : (b : Bool) → one_if b + line_ends text ≡ 0

@@ -1,8 +1,10 @@
 -- The edits of a delta have that delta.
-use Rattle.std.proofs.Common.{◌≡◌, ℕ, zero, suc, ◌+◌, ◌-◌, ◌≤◌, true, false, not, List, [], ◌∷◌, ◌++◌, length, take, drop, map, reverse, Some, Ok, Err, refl, sym, ap, ◌∙◌, ◌⊎◌, inl, inr, arith, append_assoc, length-append}
+use Rattle.std.proofs.Common.{◌≡◌, ℕ, zero, suc, ◌+◌, ◌-◌, ◌≤◌, true, false, not, List, [], ◌∷◌, ◌++◌, length, take}
+use Rattle.std.proofs.Common.{drop, map, reverse, Some, Result, Ok, Err, refl, sym, ap, ◌∙◌, ◌⊎◌, inl, inr, arith, append_assoc, length-append}
 use Rattle.std.specs.Prelude.{if◌then◌else◌}
 use Rattle.std.proofs.lemmas.List.{append-nil, take-append-le, take-take, length-take-le, length-drop, reverse-append}
 use Rattle.std.proofs.lemmas.Bool.{le-leb, ne_eqb}
+use Rattle.tt_base.specs.Answers.{and_then}
 use Rattle.tt_base.specs.declared.edits.TextEdit.{TextEdit}
 use Rattle.delta.specs.Cells.{Cells, base_length, result_length, covers, inserts, nothing, keeping, applied, is_nothing, IsNormal}
 use Rattle.delta.specs.Marks.{Mark, New, places, marks_of, marks_from, applied_marks, composed}
@@ -14,14 +16,15 @@ use Rattle.delta.proofs.MarksLemmas.{length-places, applied_marks-inserts, appli
 use Rattle.delta.proofs.ComposedLemmas.{marks_of-composed, IsNormal-composed, base_length-composed}
 use Rattle.delta.proofs.LawLemmas.{marks_fix, length-applied}
 use Rattle.delta.proofs.ApplyLemmas.{applied-kept}
-use Rattle.delta.proofs.StepsLemmas.{IsNormal-cells_of}
+use Rattle.delta.proofs.StepsLemmas.{IsNormal-kept, IsNormal-cells_of}
 use Rattle.text_position.specs.Places.{offset_at, position_behind, first_position, position_at}
-use Rattle.text_position.specs.Edits.{Reading, and_then, range_between, replacing, delta_of_edit, with_edits, delta_of_edits}
+use Rattle.text_position.specs.Edits.{range_between, replacing, delta_of_edit, with_edits, delta_of_edits}
 use Rattle.text_position.specs.Changes.{Change, change_if, edit_for, edits_of}
 use Rattle.text_position.specs.Writing.{change_at_end, changes_ahead}
+use Rattle.text_position.specs.declared.faults.EditsFault.{EditsFault}
 use Rattle.text_position.specs.declared.faults.EditsFault.TheVariants.{BackwardRange}
 use Rattle.text_position.proofs.PlacesLemmas.{offset_at-position_at}
-use Rattle.text_position.proofs.EditLemmas.{IsNormal-kept, IsNormal-change, base_length-change}
+use Rattle.text_position.proofs.EditLemmas.{IsNormal-change, base_length-change}
 use Rattle.text_position.proofs.ChangesLemmas.{changes_of-cells_of}
 
 places-add : (i m n : ℕ) → places i (m + n) ≡ places i m ++ places (i + m) n
@@ -57,7 +60,8 @@ marks_of-behind gap size d =
     ∙ ap (λ l. l ++ marks_from (gap + size) d) (places-add 0 gap size ∙ ap (λ j. places 0 gap ++ places j size) same)
     ∙ append_assoc (places 0 gap) (places gap size) (marks_from (gap + size) d)
 
-applied_marks-change : (gap size : ℕ) (text : List ℕ) (left : ℕ) (rest : List Mark) → length rest ≡ left → applied_marks (change_alone gap size text left) (places 0 gap ++ (places gap size ++ rest)) ≡ places 0 gap ++ (map New text ++ rest)
+applied_marks-change : (gap size : ℕ) (text : List ℕ) (left : ℕ) (rest : List Mark) → length rest ≡ left
+    → applied_marks (change_alone gap size text left) (places 0 gap ++ (places gap size ++ rest)) ≡ places 0 gap ++ (map New text ++ rest)
 applied_marks-change gap size text left rest long =
     applied_marks-run gap (inserts text (covers false size (keeping left))) (places 0 gap) (places gap size ++ rest) (length-places 0 gap)
     ∙ ap (λ l. places 0 gap ++ l) (applied_marks-inserts text (covers false size (keeping left)) (places gap size ++ rest)
@@ -102,7 +106,7 @@ delta_of_change index text rest gap size t long =
     let end : offset_at reached (position_at text (gap + size)) ≡ Some (gap + size) =
     ap (offset_at reached) (position_at-front text rest (gap + size) (gap + size) (omega arith) long)
     ∙ offset_at-position_at reached (gap + size) (omega (arith, total)) in
-    let next : (ℕ × ℕ) → Reading Cells = λ range. Ok (replacing (length reached) range.0 range.1 t) in
+    let next : (ℕ × ℕ) → Result Cells EditsFault = λ range. Ok (replacing (length reached) range.0 range.1 t) in
     let deleted : gap + size - gap ≡ size = omega arith in
     let left : length reached - (gap + size) ≡ length rest = omega (arith, total) in
     ap (λ s. and_then (range_between index s (offset_at reached (position_at text (gap + size)))) next) start
@@ -111,15 +115,17 @@ delta_of_change index text rest gap size t long =
     ∙ ap (λ n. Ok (covers true gap (inserts t (covers false n (keeping (length reached - (gap + size))))))) deleted
     ∙ ap (λ n. Ok (covers true gap (inserts t (covers false size (keeping n))))) left
 
-pub with_edits-append : (index : ℕ) (text : List ℕ) (so_far d : Cells) (edits more : List TextEdit) → with_edits index text so_far edits ≡ Ok d → with_edits index text so_far (edits ++ more) ≡ with_edits (index + length edits) text d more
+pub with_edits-append : (index : ℕ) (text : List ℕ) (so_far d : Cells) (edits more : List TextEdit) → with_edits index text so_far edits ≡ Ok d
+    → with_edits index text so_far (edits ++ more) ≡ with_edits (index + length edits) text d more
 with_edits-append index text so_far d [] more e =
     let same : index ≡ index + 0 = omega arith in
     let is : so_far ≡ d = cc in
     ap (λ i. with_edits i text so_far more) same ∙ ap (λ x. with_edits (index + 0) text x more) is
 with_edits-append index text so_far d (edit ∷ edits) more e =
     by_edit (delta_of_edit index (applied so_far text) edit) e (λ (x : Cells). with_edits-append (index + 1) text (composed so_far x) d edits more) where
-      by_edit : (r : Reading Cells) → and_then r (λ x. with_edits (index + 1) text (composed so_far x) edits) ≡ Ok d
-          → ((x : Cells) → with_edits (index + 1) text (composed so_far x) edits ≡ Ok d → with_edits (index + 1) text (composed so_far x) (edits ++ more) ≡ with_edits (index + 1 + length edits) text d more)
+      by_edit : (r : Result Cells EditsFault) → and_then r (λ x. with_edits (index + 1) text (composed so_far x) edits) ≡ Ok d
+          → ((x : Cells) → with_edits (index + 1) text (composed so_far x) edits ≡ Ok d
+          → with_edits (index + 1) text (composed so_far x) (edits ++ more) ≡ with_edits (index + 1 + length edits) text d more)
           → and_then r (λ x. with_edits (index + 1) text (composed so_far x) (edits ++ more)) ≡ with_edits (index + suc (length edits)) text d more
       by_edit (Ok x) e rest =
           let same : index + 1 + length edits ≡ index + suc (length edits) = omega arith in
@@ -133,7 +139,7 @@ backwards text changes = reverse (map (edit_for text) changes)
 pub backwards-more : (text : List ℕ) (change : Change) (changes : List Change) → backwards text (change ∷ changes) ≡ backwards text changes ++ edit_for text change ∷ []
 backwards-more text change changes = reverse-append (edit_for text change ∷ []) (map (edit_for text) changes)
 
-abbrev outcome : List ℕ → List Change → Reading Cells
+abbrev outcome : List ℕ → List Change → Result Cells EditsFault
 outcome text changes = delta_of_edits text (backwards text changes)
 
 -- the edit of one more change in front
@@ -172,20 +178,20 @@ outcome-ahead text gap waiting [] h ready long =
     ap (outcome text) (sym (append-nil (change_at_end gap waiting)))
     ∙ outcome-waiting text gap waiting nothing [] tt long (ap (λ n. Ok (keeping n)) all)
 outcome-ahead text gap waiting (Keep n ∷ ss) h ready long =
-    outcome-waiting text gap waiting (covers true n (cells_of ss)) (changes_ahead (gap + n) [] ss) (IsNormal-kept n (cells_of ss) (IsNormal-cells_of ss h.2)) long
-    (outcome-ahead text (gap + n) [] ss h.2 (inl refl) (omega (arith, long, base_length-covers true n (cells_of ss)))
+    outcome-waiting text gap waiting (covers true n (cells_of ss)) (changes_ahead (gap + n) [] ss) (IsNormal-kept n (cells_of ss) (IsNormal-cells_of ss h.1)) long
+    (outcome-ahead text (gap + n) [] ss h.1 (inl refl) (omega (arith, long, base_length-covers true n (cells_of ss)))
     ∙ ap (λ d. Ok (covers true (gap + n) d)) (inserts_none (cells_of ss))
     ∙ ap Ok (sym (covers-covers true gap n (cells_of ss))))
 outcome-ahead text gap waiting (Insert t ∷ ss) h (inr lead) long = absurd lead
 outcome-ahead text gap waiting (Insert t ∷ ss) h (inl none) long =
     let same : gap + 0 ≡ gap = omega arith in
     ap (λ g. outcome text (changes_ahead g t ss)) same
-    ∙ outcome-ahead text gap t ss h.2 (inr h.1) (omega (arith, long, base_length-inserts t (cells_of ss)))
+    ∙ outcome-ahead text gap t ss h.1 (inr h.0.leads) (omega (arith, long, base_length-inserts t (cells_of ss)))
     ∙ ap (λ d. Ok (covers true gap d)) (sym (ap (λ w. inserts w (inserts t (cells_of ss))) none ∙ inserts_none (inserts t (cells_of ss))))
 outcome-ahead text gap waiting (Delete n ∷ ss) h ready long =
     let base = base_length-covers false n (cells_of ss) in
     outcome-more text gap n waiting (cells_of ss) (changes_ahead (gap + n) [] ss) (IsNormal-cells_of (Delete n ∷ ss) h) (omega (arith, long, base))
-    (outcome-ahead text (gap + n) [] ss h.2 (inl refl) (omega (arith, long, base))
+    (outcome-ahead text (gap + n) [] ss h.1 (inl refl) (omega (arith, long, base))
     ∙ ap (λ d. Ok (covers true (gap + n) d)) (inserts_none (cells_of ss)))
 
 pub round_trip : (text : List ℕ) (ss : List DeltaStep) → IsCanonical ss → base_length (cells_of ss) ≡ length text → delta_of_edits text (edits_of text (cells_of ss)) ≡ Ok (cells_of ss)

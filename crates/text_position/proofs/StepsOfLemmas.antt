@@ -24,22 +24,22 @@ record HasPlaces (d : Cells) : Type 0 where
   cells : cells_of steps ≡ d
 
 kept_place : (ss : List DeltaStep) → IsCanonical ss → HasPlaces (with_cell [] true (cells_of ss))
-kept_place [] h = record { steps = Keep 1 ∷ []; canonical = (omega arith, tt, tt); lead = λ text. tt; cells = refl }
-kept_place (Keep n ∷ ss) h = record { steps = Keep (suc n) ∷ ss; canonical = (omega arith, by_steps ss h.1, h.2); lead = λ text. tt; cells = refl } where
+kept_place [] h = record { steps = Keep 1 ∷ []; canonical = (record { content = omega arith; leads = tt }, tt); lead = λ text. tt; cells = refl }
+kept_place (Keep n ∷ ss) h = record { steps = Keep (suc n) ∷ ss; canonical = (record { content = omega arith; leads = by_steps ss h.0.leads }, h.1); lead = λ text. tt; cells = refl } where
   by_steps : (ss : List DeltaStep) → MayLead (Keep n) ss → MayLead (Keep (suc n)) ss
   by_steps [] h = tt
   by_steps (Keep m ∷ ss) h = absurd h
   by_steps (Insert text ∷ ss) h = tt
   by_steps (Delete m ∷ ss) h = tt
-kept_place (Insert t ∷ ss) h = record { steps = Keep 1 ∷ (Insert t ∷ ss); canonical = (omega arith, tt, h); lead = λ text. tt; cells = refl }
-kept_place (Delete n ∷ ss) h = record { steps = Keep 1 ∷ (Delete n ∷ ss); canonical = (omega arith, tt, h); lead = λ text. tt; cells = refl }
+kept_place (Insert t ∷ ss) h = record { steps = Keep 1 ∷ (Insert t ∷ ss); canonical = (record { content = omega arith; leads = tt }, h); lead = λ text. tt; cells = refl }
+kept_place (Delete n ∷ ss) h = record { steps = Keep 1 ∷ (Delete n ∷ ss); canonical = (record { content = omega arith; leads = tt }, h); lead = λ text. tt; cells = refl }
 
 deleted_place : (ss : List DeltaStep) → IsCanonical ss → front (cells_of ss) ≡ [] → HasPlaces (with_cell [] false (cells_of ss))
-deleted_place [] h none = record { steps = Delete 1 ∷ []; canonical = (omega arith, tt, tt); lead = λ text. tt; cells = refl }
-deleted_place (Keep n ∷ ss) h none = record { steps = Delete 1 ∷ (Keep n ∷ ss); canonical = (omega arith, tt, h); lead = λ text. tt; cells = refl }
+deleted_place [] h none = record { steps = Delete 1 ∷ []; canonical = (record { content = omega arith; leads = tt }, tt); lead = λ text. tt; cells = refl }
+deleted_place (Keep n ∷ ss) h none = record { steps = Delete 1 ∷ (Keep n ∷ ss); canonical = (record { content = omega arith; leads = tt }, h); lead = λ text. tt; cells = refl }
 deleted_place (Insert t ∷ ss) h none =
-    absurd (omega (arith, h.0, ap length (sym (front-inserts t (cells_of ss)) ∙ none), length-append t (front (cells_of ss))))
-deleted_place (Delete n ∷ ss) h none = record { steps = Delete (suc n) ∷ ss; canonical = (omega arith, by_steps ss h.1, h.2); lead = λ text. tt; cells = refl } where
+    absurd (omega (arith, h.0.content, ap length (sym (front-inserts t (cells_of ss)) ∙ none), length-append t (front (cells_of ss))))
+deleted_place (Delete n ∷ ss) h none = record { steps = Delete (suc n) ∷ ss; canonical = (record { content = omega arith; leads = by_steps ss h.0.leads }, h.1); lead = λ text. tt; cells = refl } where
   by_steps : (ss : List DeltaStep) → MayLead (Delete n) ss → MayLead (Delete (suc n)) ss
   by_steps [] h = tt
   by_steps (Keep m ∷ ss) h = tt
@@ -57,7 +57,7 @@ with_text : (text : List ℕ) (kept : Bool) (d : Cells) → HasPlaces (with_cell
 with_text [] kept d h = record { steps = h.steps; canonical = h.canonical; cells = h.cells }
 with_text (c ∷ text) kept d h = record {
   steps = Insert (c ∷ text) ∷ h.steps;
-  canonical = (omega arith, h.lead (c ∷ text), h.canonical);
+  canonical = (record { content = omega arith; leads = h.lead (c ∷ text) }, h.canonical);
   cells =
       ap (inserts (c ∷ text)) h.cells ∙ ap (λ t. with_cell t kept d) (append-nil (c ∷ text));
 }
@@ -68,7 +68,7 @@ has_steps d h = by_cells d.cells d.last h where
   by_cells [] [] h = record { steps = []; canonical = tt; cells = refl }
   by_cells [] (c ∷ text) h = record {
     steps = Insert (c ∷ text) ∷ [];
-    canonical = (omega arith, tt, tt);
+    canonical = (record { content = omega arith; leads = tt }, tt);
     cells = ap (λ t. record { cells = []; last = t }) (append-nil (c ∷ text));
   }
   by_cells (c ∷ cs) last h =

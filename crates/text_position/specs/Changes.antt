@@ -49,9 +49,17 @@ edit_for text change = record {
 abbrev pub edits_of : List ℕ → Cells → List TextEdit
 edits_of text d = reverse (map (edit_for text) (changes_of d))
 
--- each edit has a range in the text, which ends before a place, and before the range of the edit ahead
--- of it begins
+-- an edit has a range in the text, which ends before a place, and the others are as told before its start
+pub record EndsBefore (text : List ℕ) (place : ℕ) (edit : TextEdit) (Others : ℕ → Type 0) : Type 0 where
+  pub start : ℕ
+  pub end : ℕ
+  pub start_is : IsPlace text edit.start start
+  pub end_is : IsPlace text edit.end end
+  pub forward : start ≤ end
+  pub before : end < place
+  pub others : Others start
+
+-- the range of each edit ends before a place, and before the range of the edit ahead of it begins
 abbrev pub AreApart : List ℕ → ℕ → List TextEdit → Type 0
 AreApart text place [] = Unit {0}
-AreApart text place (edit ∷ edits) =
-    (start : ℕ) × ((end : ℕ) × (IsPlace text edit.start start × IsPlace text edit.end end × (start ≤ end) × (end < place) × AreApart text start edits))
+AreApart text place (edit ∷ edits) = EndsBefore text place edit (λ start. AreApart text start edits)

@@ -31,11 +31,22 @@ abbrev pub DeltaLeadsAsEdits : Type 0
 DeltaLeadsAsEdits =
     (text : List ℕ) (edits : List TextEdit) (d : Cells) → delta_of_edits text edits ≡ Ok d → LeadInTurn text edits (applied d text)
 
+-- an edit starts behind its end
+pub record IsBackward (text : List ℕ) (edit : TextEdit) : Type 0 where
+  pub start : ℕ
+  pub end : ℕ
+  pub start_is : IsPlace text edit.start start
+  pub end_is : IsPlace text edit.end end
+  pub backward : end < start
+
+-- the text has no such start, or no such end
+abbrev pub HasNoPlace : List ℕ → TextEdit → Type 0
+HasNoPlace text edit = ((offset : ℕ) → ¬ IsPlace text edit.start offset) ⊎ ((offset : ℕ) → ¬ IsPlace text edit.end offset)
+
 -- an edit and a text that it is for, and the cause for which it has no delta
 abbrev pub IsNoRange : List ℕ → TextEdit → ℕ → EditsFault → Type 0
 IsNoRange text edit index fault =
-    ((fault ≡ BadPosition index) × (((offset : ℕ) → ¬ IsPlace text edit.start offset) ⊎ ((offset : ℕ) → ¬ IsPlace text edit.end offset)))
-    ⊎ ((fault ≡ BackwardRange index) × ((start : ℕ) × ((end : ℕ) × (IsPlace text edit.start start × IsPlace text edit.end end × (end < start)))))
+    ((fault ≡ BadPosition index) × HasNoPlace text edit) ⊎ ((fault ≡ BackwardRange index) × IsBackward text edit)
 
 -- a list of edits is refused for an edit of it: those before have a delta, and in the text that they
 -- lead to it has no range

@@ -1,12 +1,12 @@
--- Lines and characters of a text, as the Language Server Protocol 3.17 has them in a Position. Of its
--- line ends LF alone is one here, and a character is a Unicode scalar value.
-use Rattle.std.specs.Prelude.{◌≡◌, ℕ, zero, suc, ◌+◌, Bool, true, false, ◌==◌, nat_le, List, [], ◌∷◌, ◌++◌, length, take, drop, Option, Some, None, option_map, option_and_then, if◌then◌else◌}
+-- Lines and characters of a text, in the form of a Position of the Language Server Protocol 3.17. Three
+-- things differ. The protocol ends a line at LF, CR LF and CR, and here LF alone ends it. Its unit is the
+-- UTF-16 code unit unless another is agreed on, and here it is the Unicode scalar value. And it moves a
+-- character past the end of a line back to that end, where here the position is refused.
+use Rattle.std.specs.Prelude.{◌≡◌, ℕ, suc, ◌+◌, Bool, true, false, nat_le, List, [], ◌∷◌, ◌++◌, length, take, drop, Option, Some, None, option_and_then, if◌then◌else◌}
+pub use Rattle.paged.specs.Chars.{is_line_end}
+use Rattle.paged.specs.Marks.{behind}
 use Rattle.delta.specs.Cells.{one_if}
 use Rattle.tt_base.specs.declared.edits.Position.{Position}
-
--- LF, which ends a line
-abbrev pub is_line_end : ℕ → Bool
-is_line_end ch = ch == 10
 
 -- the number of lines that end in a text
 abbrev pub line_ends : List ℕ → ℕ
@@ -34,10 +34,7 @@ pub record IsPlace (text : List ℕ) (p : Position) (offset : ℕ) : Type 0 wher
 
 -- the number of characters before a line, where there are so many lines
 abbrev pub line_start : List ℕ → ℕ → Option ℕ
-line_start text zero = Some 0
-line_start [] (suc line) = None
-line_start (ch ∷ text) (suc line) =
-    option_map suc (line_start text (if is_line_end ch then line else suc line))
+line_start text line = behind is_line_end text line
 
 -- the number of characters before the first line end, or of all where there is none
 abbrev pub line_length : List ℕ → ℕ

@@ -1,6 +1,7 @@
 //! What holds of the definitions of positions and edits. Each function has an empty body, and its
 //! contract is the law.
-ghost use Rattle.text_position.specs.Laws.{ComputedIsPlace, PlaceIsComputed, PlaceHasPosition, PositionComesBack, DeltaLeadsAsEdits, RefusalTellsFirst, FirstBadIsRefused, DeltaComesBack, EditsAreApart};
+ghost use Rattle.text_position.specs.Laws.{ComputedIsPlace, PlaceIsComputed, PlaceHasPosition, PositionComesBack};
+ghost use Rattle.text_position.specs.Laws.{DeltaLeadsAsEdits, RefusalTellsFirst, FirstBadIsRefused, DeltaComesBack, EditsAreApart};
 
 /// The place of a position, as it is computed, is the one that the definition says.
 pub fn computed_place_is_defined()

@@ -1,7 +1,8 @@
 //! Positions in a text by line and character, and the delta of a list of edits.
 //!
-//! Positions are those of the Language Server Protocol 3.17, where LF alone ends a line and a
-//! character is a Unicode scalar value.
+//! Positions have the form of the Language Server Protocol 3.17, and differ from it in three things: LF
+//! alone ends a line, not CR; a character is a Unicode scalar value, not a UTF-16 code unit; and a
+//! character past the end of its line is refused, not moved back to that end.
 #![tactic(auto)]
 
 mod delta_edits;

@@ -1,56 +1,23 @@
-ghost use Rattle.std.specs.Prelude.{◌≡◌, ℕ, ◌+◌, ◌^◌, ◌<◌, ◌≤◌, length, IfOk, IfErr, IfSome};
+ghost use Rattle.std.specs.Prelude.{◌≡◌, ℕ, ◌≤◌, length, IfOk, IfErr};
 ghost use Rattle.std.specs.Result.{result_ok};
 ghost use Rattle.tt_base.specs.declared.edits.Position.{Position};
-ghost use Rattle.text_position.specs.Places.{IsPlace, is_line_end, line_start, line_length, offset_at, position_at, position_behind};
+ghost use Rattle.text_position.specs.Places.{IsPlace, offset_at, position_at};
 
 use crate::faults::BadPosition;
 use tt_base::{Position, Text};
-
-/// Whether the character ends a line.
-fn is_line_end(ch: char) -> bool
-    ensures { result ≡ is_line_end ch }
-{
-    ch == '\n'
-}
-
-/// The number of characters before a line, where there are so many lines.
-fn line_start(chars: &[char], line: u64) -> Option<usize>
-    ensures start { result ≡ line_start chars.now line }
-    ensures within { IfSome result (λ start. start ≤ length chars.now) }
-{
-    let mut left = line;
-    for (i, ch) in chars.iter().enumerate() {
-        if left == 0 {
-            return Some(i);
-        }
-        if is_line_end(*ch) {
-            left -= 1;
-        }
-    }
-    if left == 0 { Some(chars.len()) } else { None }
-}
-
-/// The number of characters before the first line end, or of all where there is none.
-fn line_length(chars: &[char]) -> usize
-    ensures length { result ≡ line_length chars.now }
-    ensures within { result ≤ length chars.now }
-{
-    for (i, ch) in chars.iter().enumerate() {
-        if is_line_end(*ch) {
-            return i;
-        }
-    }
-    chars.len()
-}
 
 /// The number of characters before a position, where the text has it.
 fn offset_at(text: &Text, p: Position) -> Option<usize>
     ensures { result ≡ offset_at text.now p }
 {
-    let chars = text.as_slice();
-    let start = line_start(chars, p.line)?;
-    if p.character <= line_length(&chars[start..]) as u64 {
-        Some(start + p.character as usize)
+    let line = p.line as usize;
+    let start = text.behind_line_ends(line)?;
+    if p.character > (text.len() - start) as u64 {
+        return None;
+    }
+    let offset = start + p.character as usize;
+    if text.line_ends_before(offset) == line {
+        Some(offset)
     } else {
         None
     }
@@ -59,7 +26,8 @@ fn offset_at(text: &Text, p: Position) -> Option<usize>
 /// The number of characters before a position.
 ///
 /// `BadPosition` says that the line is past the last one, or the character past the end of its line,
-/// to which the LF does not belong.
+/// to which the LF does not belong. (The Language Server Protocol moves such a character back to the end
+/// of the line.)
 pub fn offset_of(text: &Text, p: Position) -> Result<usize, BadPosition>
     ensures place { IfOk result (λ offset. IsPlace text.now p offset) }
     ensures refused { IfErr result (λ _. (offset : ℕ) → ¬ IsPlace text.now p offset) }
@@ -71,22 +39,19 @@ pub fn offset_of(text: &Text, p: Position) -> Result<usize, BadPosition>
     }
 }
 
-/// The position behind characters that begin at a position.
-pub(crate) fn position_behind(from: Position, chars: &[char]) -> Position
-    requires line { from.line + length chars.now < 2 ^ 64 }
-    requires character { from.character + length chars.now < 2 ^ 64 }
-    ensures { result ≡ position_behind from chars.now }
+/// The position with so many characters of the text before it.
+fn position_at(text: &Text, offset: usize) -> Position
+    requires { offset ≤ length text.now }
+    ensures { result ≡ position_at text.now offset }
 {
-    let mut position = from;
-    for ch in chars {
-        if is_line_end(*ch) {
-            position.line += 1;
-            position.character = 0;
-        } else {
-            position.character += 1;
-        }
+    let line = text.line_ends_before(offset);
+    match text.behind_line_ends(line) {
+        Some(start) => Position {
+            line: line as u64,
+            character: (offset - start) as u64,
+        },
+        None => unreachable!(),
     }
-    position
 }
 
 /// The position with so many characters of the text before it.
@@ -96,9 +61,5 @@ pub fn position_of(text: &Text, offset: usize) -> Position
     ensures only { (p : Position) → IsPlace text.now p offset → p ≡ result }
     ensures computed { result ≡ position_at text.now offset }
 {
-    let first = Position {
-        line: 0,
-        character: 0,
-    };
-    position_behind(first, &text.as_slice()[..offset])
+    position_at(text, offset)
 }

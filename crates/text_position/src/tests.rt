@@ -83,3 +83,72 @@ fn the_first_bad_edit_is_told(rt: HostRuntime) -> Result<(), Fail> {
     assert_eq!(rt; fault, Some(EditsFault::BackwardRange(0)));
     Ok(())
 }
+
+#[test]
+fn each_fault_has_its_text(rt: HostRuntime) -> Result<(), Fail> {
+    let alloc = rt.alloc();
+    let cases = [
+        (
+            EditsFault::BadPosition(3),
+            "edit 3 has a position that the text does not have",
+        ),
+        (EditsFault::BackwardRange(0), "edit 0 ends before it starts"),
+        (EditsFault::Memory, "out of memory"),
+    ];
+    for (fault, said) in cases {
+        assert_eq!(rt; format!(in alloc; "{fault}")?.as_str(), said);
+    }
+    let said = format!(in alloc; "{}", BadPosition)?;
+    assert_eq!(rt; said.as_str(), "the text has no such position");
+    Ok(())
+}
+
+/// So many lines, each of some letters `a`, a `b` and LF.
+fn lines(alloc: Global, count: u8, letters: &[char]) -> Result<Text, AllocError> {
+    let mut chars = Vec::new(alloc);
+    for _ in 0..count {
+        chars.extend_from_slice(letters)?;
+        chars.extend_from_slice(['b', '\n'].as_slice())?;
+    }
+    Text::from_vec(alloc, chars)
+}
+
+/// The edits that make sixty letters of the first of each line.
+fn lengthening(alloc: Global, count: u8) -> Result<Vec<TextEdit>, AllocError> {
+    let mut edits = Vec::new(alloc);
+    for line in 0..count {
+        let letters = Vec::from_slice(alloc, ['a'; 60].as_slice())?;
+        let replacement = Text::from_vec(alloc, letters)?;
+        edits.push(TextEdit {
+            start: at(u64::from(line), 0),
+            end: at(u64::from(line), 1),
+            replacement,
+        })?;
+    }
+    Ok(edits)
+}
+
+/// Lists of 3 and of 100 edits, each on its own line, and a result of more than 4,096 characters.
+#[test]
+fn many_edits_apply_and_come_back(rt: HostRuntime) -> Result<(), Fail> {
+    let alloc = rt.alloc();
+    for count in [3u8, 100] {
+        let before = lines(alloc, count, ['a'].as_slice())?;
+        let edits = lengthening(alloc, count)?;
+        let delta = from_edits(alloc, &before, edits.as_slice())
+            .ok()
+            .ok_or("refused")?;
+        assert_eq!(rt; before.len(), delta.base_length());
+        assert_eq!(rt;
+            delta.apply(alloc, &before)?,
+            lines(alloc, count, ['a'; 60].as_slice())?
+        );
+        let back = to_edits(alloc, &before, &delta)?;
+        assert_eq!(rt; back.len(), usize::from(count));
+        let again = from_edits(alloc, &before, back.as_slice())
+            .ok()
+            .ok_or("refused")?;
+        assert_eq!(rt; again.steps().as_slice(), delta.steps().as_slice());
+    }
+    Ok(())
+}

@@ -30,7 +30,9 @@ editor_text-editor_text Daemon t u d = covers_texts t u d
 -- the daemon's text comes first
 pub carried-daemon_text : (s : Side) (t : List ℕ) (q p : Cells) → carried s (inserts t q) p ≡ daemon_text s t (carried s q p)
 carried-daemon_text s t q p = by_cells q.cells q.last p.cells p.last where
-  by_cells : (qs : List Cell) (q_last : List ℕ) (ps : List Cell) (p_last : List ℕ) → carried s (inserts t (record { cells = qs; last = q_last })) (record { cells = ps; last = p_last }) ≡ daemon_text s t (carried s (record { cells = qs; last = q_last }) (record { cells = ps; last = p_last }))
+  by_cells : (qs : List Cell) (q_last : List ℕ) (ps : List Cell) (p_last : List ℕ)
+      → carried s (inserts t (record { cells = qs; last = q_last })) (record { cells = ps; last = p_last }) ≡ daemon_text s t
+      (carried s (record { cells = qs; last = q_last }) (record { cells = ps; last = p_last }))
   by_cells [] q_last [] p_last = sym (daemon_text-daemon_text s t q_last _)
   by_cells [] q_last (c ∷ ps) p_last = sym (daemon_text-daemon_text s t q_last _)
   by_cells (c ∷ qs) q_last [] p_last = sym (daemon_text-daemon_text s t c.inserted _)
@@ -46,7 +48,9 @@ past_none s t u v d none =
 -- where the daemon inserts nothing at the gap, the editor's text comes first
 pub carried-editor_text : (s : Side) (t : List ℕ) (q p : Cells) → front q ≡ [] → carried s q (inserts t p) ≡ editor_text s t (carried s q p)
 carried-editor_text s t q p none = by_cells q.cells q.last p.cells p.last none where
-  by_cells : (qs : List Cell) (q_last : List ℕ) (ps : List Cell) (p_last : List ℕ) → front (record { cells = qs; last = q_last }) ≡ [] → carried s (record { cells = qs; last = q_last }) (inserts t (record { cells = ps; last = p_last })) ≡ editor_text s t (carried s (record { cells = qs; last = q_last }) (record { cells = ps; last = p_last }))
+  by_cells : (qs : List Cell) (q_last : List ℕ) (ps : List Cell) (p_last : List ℕ) → front (record { cells = qs; last = q_last }) ≡ []
+      → carried s (record { cells = qs; last = q_last }) (inserts t (record { cells = ps; last = p_last })) ≡ editor_text s t
+      (carried s (record { cells = qs; last = q_last }) (record { cells = ps; last = p_last }))
   by_cells [] q_last [] p_last none = past_none s t q_last p_last _ none
   by_cells [] q_last (c ∷ ps) p_last none = past_none s t q_last c.inserted _ none
   by_cells (c ∷ qs) q_last [] p_last none = past_none s t c.inserted p_last _ none
@@ -108,16 +112,25 @@ one_is false = refl
 
 pub base_length-carried : (s : Side) (q p : Cells) → base_length q ≡ base_length p → base_length (carried s q p) ≡ other_length s q p
 base_length-carried Editor q p lengths = by_cells q.cells q.last p.cells p.last lengths where
-  by_cells : (qs : List Cell) (q_last : List ℕ) (ps : List Cell) (p_last : List ℕ) → length qs ≡ length ps → base_length (carried Editor (record { cells = qs; last = q_last }) (record { cells = ps; last = p_last })) ≡ result_length (record { cells = qs; last = q_last })
+  by_cells : (qs : List Cell) (q_last : List ℕ) (ps : List Cell) (p_last : List ℕ) → length qs ≡ length ps
+      → base_length (carried Editor (record { cells = qs; last = q_last }) (record { cells = ps; last = p_last })) ≡ result_length (record { cells = qs; last = q_last })
   by_cells [] q_last [] p_last h = omega (arith, base_length-covers true (length q_last) (inserts p_last nothing))
   by_cells [] q_last (e ∷ ps) p_last h = absurd (omega (arith, h))
   by_cells (c ∷ qs) q_last [] p_last h = absurd (omega (arith, h))
   by_cells (c ∷ qs) q_last (e ∷ ps) p_last h =
       let rest : Cells = carried Editor (record { cells = qs; last = q_last }) (record { cells = ps; last = p_last }) in
       let one : Cells = covers_if c.kept e.kept 1 rest in
-      omega (arith, base_length-covers true (length c.inserted) (inserts e.inserted one), base_length-inserts e.inserted one, base_length-covers_if c.kept e.kept 1 rest, one_is c.kept, by_cells qs q_last ps p_last (omega (arith, h)))
+      omega (
+        arith,
+        base_length-covers true (length c.inserted) (inserts e.inserted one),
+        base_length-inserts e.inserted one,
+        base_length-covers_if c.kept e.kept 1 rest,
+        one_is c.kept,
+        by_cells qs q_last ps p_last (omega (arith, h)),
+      )
 base_length-carried Daemon q p lengths = by_cells q.cells q.last p.cells p.last lengths where
-  by_cells : (qs : List Cell) (q_last : List ℕ) (ps : List Cell) (p_last : List ℕ) → length qs ≡ length ps → base_length (carried Daemon (record { cells = qs; last = q_last }) (record { cells = ps; last = p_last })) ≡ result_length (record { cells = ps; last = p_last })
+  by_cells : (qs : List Cell) (q_last : List ℕ) (ps : List Cell) (p_last : List ℕ) → length qs ≡ length ps
+      → base_length (carried Daemon (record { cells = qs; last = q_last }) (record { cells = ps; last = p_last })) ≡ result_length (record { cells = ps; last = p_last })
   by_cells [] q_last [] p_last h =
       omega (arith, base_length-inserts q_last (covers true (length p_last) nothing), base_length-covers true (length p_last) nothing)
   by_cells [] q_last (e ∷ ps) p_last h = absurd (omega (arith, h))
@@ -125,4 +138,11 @@ base_length-carried Daemon q p lengths = by_cells q.cells q.last p.cells p.last 
   by_cells (c ∷ qs) q_last (e ∷ ps) p_last h =
       let rest : Cells = carried Daemon (record { cells = qs; last = q_last }) (record { cells = ps; last = p_last }) in
       let one : Cells = covers_if e.kept c.kept 1 rest in
-      omega (arith, base_length-inserts c.inserted (covers true (length e.inserted) one), base_length-covers true (length e.inserted) one, base_length-covers_if e.kept c.kept 1 rest, one_is e.kept, by_cells qs q_last ps p_last (omega (arith, h)))
+      omega (
+        arith,
+        base_length-inserts c.inserted (covers true (length e.inserted) one),
+        base_length-covers true (length e.inserted) one,
+        base_length-covers_if e.kept c.kept 1 rest,
+        one_is e.kept,
+        by_cells qs q_last ps p_last (omega (arith, h)),
+      )

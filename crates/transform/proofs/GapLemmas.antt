@@ -45,11 +45,13 @@ gap_to-end : (s : Side) (o : ℕ) (o_last : List ℕ) → o + gap_to s (ends o_l
 gap_to-end Editor o o_last = omega arith
 gap_to-end Daemon o o_last = omega arith
 
-gap_to-more : (s : Side) (o : ℕ) (x : Cell) (os : List Cell) (o_last : List ℕ) (i : ℕ) → o + gap_to s (record { cells = x ∷ os; last = o_last }) (suc i) ≡ ((o + length x.inserted) + one_if x.kept) + gap_to s (record { cells = os; last = o_last }) i
+gap_to-more : (s : Side) (o : ℕ) (x : Cell) (os : List Cell) (o_last : List ℕ) (i : ℕ)
+    → o + gap_to s (record { cells = x ∷ os; last = o_last }) (suc i) ≡ ((o + length x.inserted) + one_if x.kept) + gap_to s (record { cells = os; last = o_last }) i
 gap_to-more Editor o x os o_last i = omega arith
 gap_to-more Daemon o x os o_last i = omega arith
 
-moved_texts_from : (s : Side) (o : ℕ) (f : ℕ → ℕ) (cs : List Cell) (last : List ℕ) (os : List Cell) (o_last : List ℕ) → length cs ≡ length os → ((i : ℕ) → f i ≡ o + gap_to s (record { cells = os; last = o_last }) i)
+moved_texts_from : (s : Side) (o : ℕ) (f : ℕ → ℕ) (cs : List Cell) (last : List ℕ) (os : List Cell) (o_last : List ℕ) → length cs ≡ length os
+    → ((i : ℕ) → f i ≡ o + gap_to s (record { cells = os; last = o_last }) i)
     → map (λ i. record { gap = f i; text = text_at (record { cells = cs; last = last }) i }) (numbers 0 (suc (length cs))) ≡ texts_from s o cs last os o_last
 moved_texts_from s o f [] last [] o_last h is =
     ap (λ g. record { gap = g; text = last } ∷ []) (is 0 ∙ gap_to-end s o o_last)
@@ -58,18 +60,21 @@ moved_texts_from s o f (c ∷ cs) last [] o_last h is = absurd (omega (arith, h)
 moved_texts_from s o f (c ∷ cs) last (x ∷ os) o_last h is =
     let own : Cells = record { cells = c ∷ cs; last = last } in
     ap (λ l. record { gap = f 0; text = c.inserted } ∷ l) (map-numbers (λ i. record { gap = f i; text = text_at own i }) 0 (suc (length cs)))
-    ∙ ap (λ g. record { gap = g; text = c.inserted } ∷ map (λ j. record { gap = f (suc j); text = text_at (record { cells = cs; last = last }) j }) (numbers 0 (suc (length cs)))) (is 0 ∙ gap_to-zero s o x os o_last)
+    ∙ ap (λ g. record { gap = g; text = c.inserted } ∷ map (λ j. record { gap = f (suc j); text = text_at (record { cells = cs; last = last }) j }) (numbers 0 (suc (length cs))))
+    (is 0 ∙ gap_to-zero s o x os o_last)
     ∙ ap (λ l. record { gap = text_gap s o (length x.inserted); text = c.inserted } ∷ l)
     (moved_texts_from s ((o + length x.inserted) + one_if x.kept) (λ i. f (suc i)) cs last os o_last (omega (arith, h)) (λ i. is (suc i) ∙ gap_to-more s o x os o_last i))
 
-moved_places_from : (o : ℕ) (f : ℕ → ℕ) (cs : List Cell) (last : List ℕ) (os : List Cell) (o_last : List ℕ) → length cs ≡ length os → ((i : ℕ) → f i ≡ o + gap_to Editor (record { cells = os; last = o_last }) i)
+moved_places_from : (o : ℕ) (f : ℕ → ℕ) (cs : List Cell) (last : List ℕ) (os : List Cell) (o_last : List ℕ) → length cs ≡ length os
+    → ((i : ℕ) → f i ≡ o + gap_to Editor (record { cells = os; last = o_last }) i)
     → moved_if (λ i. keeps_place (record { cells = os; last = o_last }) i && not (keeps_place (record { cells = cs; last = last }) i)) f (numbers 0 (length cs)) ≡ places_from o cs os
 moved_places_from o f [] last os o_last h is = refl
 moved_places_from o f (c ∷ cs) last [] o_last h is = absurd (omega (arith, h))
 moved_places_from o f (c ∷ cs) last (x ∷ os) o_last h is =
     let test : ℕ → Bool = λ i. keeps_place (record { cells = x ∷ os; last = o_last }) i && not (keeps_place (record { cells = c ∷ cs; last = last }) i) in
     ap (with_if (x.kept && not c.kept) (f 0)) (moved_if-numbers test f 0 (length cs))
-    ∙ ap (with_if (x.kept && not c.kept) (f 0)) (moved_places_from ((o + length x.inserted) + one_if x.kept) (λ i. f (suc i)) cs last os o_last (omega (arith, h)) (λ i. is (suc i) ∙ gap_to-more Editor o x os o_last i))
+    ∙ ap (with_if (x.kept && not c.kept) (f 0))
+    (moved_places_from ((o + length x.inserted) + one_if x.kept) (λ i. f (suc i)) cs last os o_last (omega (arith, h)) (λ i. is (suc i) ∙ gap_to-more Editor o x os o_last i))
     ∙ ap (λ g. with_if (x.kept && not c.kept) g (places_from ((o + length x.inserted) + one_if x.kept) cs os)) (is 0 ∙ gap_to-zero Editor o x os o_last)
 
 -- all gaps, and all places, are g or later
@@ -120,7 +125,8 @@ no_places g (j ∷ places) a =
     ap (λ b. b || list_any (λ k. k == g) places) (ne_eqb j g (λ e. absurd (omega (arith, e, a.0)))) ∙ no_places g places a.1
 
 -- a run of places before all that is changed
-delta_with-run : (l g n : ℕ) (moved : List Moved) (places : List ℕ) → AreFromGap (g + l) moved → AreFromPlace (g + l) places → delta_with g (l + n) moved places ≡ covers true l (delta_with (g + l) n moved places)
+delta_with-run : (l g n : ℕ) (moved : List Moved) (places : List ℕ) → AreFromGap (g + l) moved → AreFromPlace (g + l) places
+    → delta_with g (l + n) moved places ≡ covers true l (delta_with (g + l) n moved places)
 delta_with-run zero g n moved places a b =
     let m : zero + n ≡ n = omega arith in
     let same : g ≡ g + zero = omega arith in
@@ -184,7 +190,8 @@ delta_with-place true k g n moved places a b = by_kept k where
       ∙ ap (λ i. with_cell [] false (delta_with i n moved places)) next
 
 editor_from : (o : ℕ) (qs : List Cell) (q_last : List ℕ) (ps : List Cell) (p_last : List ℕ) → length ps ≡ length qs
-    → delta_with o (result_length (record { cells = qs; last = q_last })) (texts_from Editor o ps p_last qs q_last) (places_from o ps qs) ≡ carried Editor (record { cells = qs; last = q_last }) (record { cells = ps; last = p_last })
+    → delta_with o (result_length (record { cells = qs; last = q_last })) (texts_from Editor o ps p_last qs q_last) (places_from o ps qs) ≡ carried Editor
+    (record { cells = qs; last = q_last }) (record { cells = ps; last = p_last })
 editor_from o [] q_last [] p_last h =
     let n : length q_last ≡ length q_last + 0 = omega arith in
     let here : Moved = record { gap = o + length q_last; text = p_last } in
@@ -203,13 +210,15 @@ editor_from o (x ∷ qs) q_last (c ∷ ps) p_last h =
     let late : AreFromGap o' moved = texts_from-late Editor o' ps p_last qs q_last in
     let late_places : AreFromPlace o' places = places_from-late o' ps qs in
     let deleted : List ℕ = with_if (x.kept && not c.kept) (o + l) places in
-    delta_with-run l o (one_if x.kept + n) (here ∷ moved) deleted (omega arith, AreFromGap-earlier (o + l) o' moved (omega arith) late) (AreFromPlace-with_if (x.kept && not c.kept) (o + l) (o + l) places (omega arith) (AreFromPlace-earlier (o + l) o' places (omega arith) late_places))
+    delta_with-run l o (one_if x.kept + n) (here ∷ moved) deleted (omega arith, AreFromGap-earlier (o + l) o' moved (omega arith) late)
+    (AreFromPlace-with_if (x.kept && not c.kept) (o + l) (o + l) places (omega arith) (AreFromPlace-earlier (o + l) o' places (omega arith) late_places))
     ∙ ap (covers true l) (delta_with-text (o + l) (one_if x.kept + n) c.inserted moved deleted)
     ∙ ap (λ d. covers true l (inserts c.inserted d)) (delta_with-place x.kept c.kept (o + l) n moved places late late_places)
     ∙ ap (λ d. covers true l (inserts c.inserted (covers_if x.kept c.kept 1 d))) (editor_from o' qs q_last ps p_last (omega (arith, h)))
 
 daemon_from : (o : ℕ) (qs : List Cell) (q_last : List ℕ) (ps : List Cell) (p_last : List ℕ) → length qs ≡ length ps
-    → delta_with o (result_length (record { cells = ps; last = p_last })) (texts_from Daemon o qs q_last ps p_last) (places_from o qs ps) ≡ carried Daemon (record { cells = qs; last = q_last }) (record { cells = ps; last = p_last })
+    → delta_with o (result_length (record { cells = ps; last = p_last })) (texts_from Daemon o qs q_last ps p_last) (places_from o qs ps) ≡ carried Daemon
+    (record { cells = qs; last = q_last }) (record { cells = ps; last = p_last })
 daemon_from o [] q_last [] p_last h =
     let n : length p_last ≡ length p_last + 0 = omega arith in
     delta_with-text o (length p_last) q_last [] []
@@ -227,7 +236,9 @@ daemon_from o (c ∷ qs) q_last (x ∷ ps) p_last h =
     let late_places : AreFromPlace o' places = places_from-late o' qs ps in
     let deleted : List ℕ = with_if (x.kept && not c.kept) (o + l) places in
     delta_with-text o (l + (one_if x.kept + n)) c.inserted moved deleted
-    ∙ ap (inserts c.inserted) (delta_with-run l o (one_if x.kept + n) moved deleted (AreFromGap-earlier (o + l) o' moved (omega arith) late) (AreFromPlace-with_if (x.kept && not c.kept) (o + l) (o + l) places (omega arith) (AreFromPlace-earlier (o + l) o' places (omega arith) late_places)))
+    ∙ ap (inserts c.inserted)
+    (delta_with-run l o (one_if x.kept + n) moved deleted (AreFromGap-earlier (o + l) o' moved (omega arith) late)
+    (AreFromPlace-with_if (x.kept && not c.kept) (o + l) (o + l) places (omega arith) (AreFromPlace-earlier (o + l) o' places (omega arith) late_places)))
     ∙ ap (λ d. inserts c.inserted (covers true l d)) (delta_with-place x.kept c.kept (o + l) n moved places late late_places)
     ∙ ap (λ d. inserts c.inserted (covers true l (covers_if x.kept c.kept 1 d))) (daemon_from o' qs q_last ps p_last (omega (arith, h)))
 

@@ -1,11 +1,11 @@
 -- Both ways round give the merge.
 use Rattle.std.proofs.Common.{◌≡◌, ℕ, Bool, true, false, ◌&&◌, List, [], ◌∷◌, ◌++◌, length, replicate, refl, sym, ap, ◌∙◌, subst, arith}
-use Rattle.std.proofs.lemmas.List.{append-nil, length-replicate, nil_from_length}
-use Rattle.std.proofs.lemmas.Bool.{and_parts, eqb-true}
+use Rattle.std.proofs.lemmas.List.{append-nil, length-replicate}
+use Rattle.std.proofs.lemmas.Bool.{and_parts}
 use Rattle.delta.specs.Cells.{Cell, Cells, ends, with_cell, base_length, result_length, keeps, covers, inserts, nothing, normal, applied, is_nothing, changes_nothing, IsNormal}
 use Rattle.delta.proofs.NormalLemmas.{base_length-normal, normal_is_fixed}
 use Rattle.delta.proofs.ApplyLemmas.{applied-inserts}
-use Rattle.delta.proofs.LawLemmas.{applied-normal, length-applied}
+use Rattle.delta.proofs.LawLemmas.{applied-normal, length-applied, empty_text}
 use Rattle.transform.specs.Carried.{merged, covers_if, carried, after_editor, after_daemon, IsChain, applied_all, past_list, list_past, chain_end}
 use Rattle.transform.specs.declared.sides.Side.TheVariants.{Editor, Daemon}
 use Rattle.transform.proofs.CarriedLemmas.{base_length-carried}
@@ -27,7 +27,9 @@ character_daemon false false c d text = refl
 -- the daemon's change, and then the editor's past it
 pub applied-carried_editor : (q p : Cells) (text : List ℕ) → base_length q ≡ base_length p → base_length q ≡ length text → applied (carried Editor q p) (applied q text) ≡ merged text q p
 applied-carried_editor q p text h k = by_cells q.cells q.last p.cells p.last text h k where
-  by_cells : (qs : List Cell) (q_last : List ℕ) (ps : List Cell) (p_last text : List ℕ) → length qs ≡ length ps → length qs ≡ length text → applied (carried Editor (record { cells = qs; last = q_last }) (record { cells = ps; last = p_last })) (applied (record { cells = qs; last = q_last }) text) ≡ merged text (record { cells = qs; last = q_last }) (record { cells = ps; last = p_last })
+  by_cells : (qs : List Cell) (q_last : List ℕ) (ps : List Cell) (p_last text : List ℕ) → length qs ≡ length ps → length qs ≡ length text
+      → applied (carried Editor (record { cells = qs; last = q_last }) (record { cells = ps; last = p_last })) (applied (record { cells = qs; last = q_last }) text) ≡ merged text
+      (record { cells = qs; last = q_last }) (record { cells = ps; last = p_last })
   by_cells [] q_last [] p_last text h k =
       ap (applied (covers true (length q_last) (inserts p_last nothing))) (sym (append-nil q_last))
       ∙ applied_text q_last (inserts p_last nothing) []
@@ -47,7 +49,9 @@ applied-carried_editor q p text h k = by_cells q.cells q.last p.cells p.last tex
 -- the editor's change, and then the daemon's past it
 pub applied-carried_daemon : (q p : Cells) (text : List ℕ) → base_length q ≡ base_length p → base_length q ≡ length text → applied (carried Daemon q p) (applied p text) ≡ merged text q p
 applied-carried_daemon q p text h k = by_cells q.cells q.last p.cells p.last text h k where
-  by_cells : (qs : List Cell) (q_last : List ℕ) (ps : List Cell) (p_last text : List ℕ) → length qs ≡ length ps → length qs ≡ length text → applied (carried Daemon (record { cells = qs; last = q_last }) (record { cells = ps; last = p_last })) (applied (record { cells = ps; last = p_last }) text) ≡ merged text (record { cells = qs; last = q_last }) (record { cells = ps; last = p_last })
+  by_cells : (qs : List Cell) (q_last : List ℕ) (ps : List Cell) (p_last text : List ℕ) → length qs ≡ length ps → length qs ≡ length text
+      → applied (carried Daemon (record { cells = qs; last = q_last }) (record { cells = ps; last = p_last })) (applied (record { cells = ps; last = p_last }) text) ≡ merged text
+      (record { cells = qs; last = q_last }) (record { cells = ps; last = p_last })
   by_cells [] q_last [] p_last text h k =
       applied-inserts q_last (covers true (length p_last) nothing) p_last
       ∙ ap (λ l. q_last ++ applied (covers true (length p_last) nothing) l) (sym (append-nil p_last))
@@ -85,7 +89,8 @@ results_meet q p h =
     ∙ ap length (daemon_then_editor q p text h k ∙ sym (editor_then_daemon q p text h k))
     ∙ length-applied (after_daemon q p) (applied p text) (base_length-after_daemon q p h ∙ sym (length-applied p text (sym h ∙ k)))
 
-pub list_both_ways : (p : Cells) (list : List Cells) (text : List ℕ) → IsChain (base_length p) list → base_length p ≡ length text → applied (past_list p list) (applied_all list text) ≡ applied_all (list_past p list) (applied p text)
+pub list_both_ways : (p : Cells) (list : List Cells) (text : List ℕ) → IsChain (base_length p) list → base_length p ≡ length text
+    → applied (past_list p list) (applied_all list text) ≡ applied_all (list_past p list) (applied p text)
 list_both_ways p [] text h k = refl
 list_both_ways p (q ∷ list) text h k =
     list_both_ways (after_editor p q) list (applied q text)
@@ -114,12 +119,10 @@ result_length-past_list p (q ∷ list) h =
     result_length-past_list (after_editor p q) list (subst (λ n. IsChain n list) (sym (base_length-after_editor q p h.0)) h.1)
     ∙ ap (λ n. chain_end n (list_past (after_editor p q) list)) (results_meet q p h.0)
 
-empty_text : (t : List ℕ) → is_nothing t ≡ true → t ≡ []
-empty_text t h = nil_from_length t (eqb-true (length t) 0 h)
-
 carried_past_nothing : (q p : Cells) → changes_nothing q ≡ true → base_length q ≡ base_length p → carried Editor q p ≡ p
 carried_past_nothing q p h k = by_cells q.cells q.last p.cells p.last h k where
-  by_cells : (qs : List Cell) (q_last : List ℕ) (ps : List Cell) (p_last : List ℕ) → changes_nothing (record { cells = qs; last = q_last }) ≡ true → length qs ≡ length ps → carried Editor (record { cells = qs; last = q_last }) (record { cells = ps; last = p_last }) ≡ record { cells = ps; last = p_last }
+  by_cells : (qs : List Cell) (q_last : List ℕ) (ps : List Cell) (p_last : List ℕ) → changes_nothing (record { cells = qs; last = q_last }) ≡ true → length qs ≡ length ps
+      → carried Editor (record { cells = qs; last = q_last }) (record { cells = ps; last = p_last }) ≡ record { cells = ps; last = p_last }
   by_cells [] q_last [] p_last h k =
       ap (λ t. covers true (length t) (inserts p_last nothing)) (empty_text q_last h) ∙ ap ends (append-nil p_last)
   by_cells [] q_last (e ∷ ps) p_last h k = absurd (omega (arith, k))
@@ -135,7 +138,8 @@ carried_past_nothing q p h k = by_cells q.cells q.last p.cells p.last h k where
 
 carried_past_no_edit : (q p : Cells) → changes_nothing p ≡ true → base_length q ≡ base_length p → carried Daemon q p ≡ q
 carried_past_no_edit q p h k = by_cells q.cells q.last p.cells p.last h k where
-  by_cells : (qs : List Cell) (q_last : List ℕ) (ps : List Cell) (p_last : List ℕ) → changes_nothing (record { cells = ps; last = p_last }) ≡ true → length qs ≡ length ps → carried Daemon (record { cells = qs; last = q_last }) (record { cells = ps; last = p_last }) ≡ record { cells = qs; last = q_last }
+  by_cells : (qs : List Cell) (q_last : List ℕ) (ps : List Cell) (p_last : List ℕ) → changes_nothing (record { cells = ps; last = p_last }) ≡ true → length qs ≡ length ps
+      → carried Daemon (record { cells = qs; last = q_last }) (record { cells = ps; last = p_last }) ≡ record { cells = qs; last = q_last }
   by_cells [] q_last [] p_last h k =
       ap (λ t. inserts q_last (covers true (length t) nothing)) (empty_text p_last h) ∙ ap ends (append-nil q_last)
   by_cells [] q_last (e ∷ ps) p_last h k = absurd (omega (arith, k))

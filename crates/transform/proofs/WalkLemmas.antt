@@ -1,18 +1,21 @@
 -- Carrying, a part of a step at a time.
-use Rattle.std.proofs.Common.{◌≡◌, ℕ, zero, suc, ◌+◌, ◌-◌, ◌^◌, ◌≤◌, ◌<◌, Bool, true, false, List, [], ◌∷◌, ◌++◌, length, take, refl, sym, ap, ◌∙◌, subst, arith}
+use Rattle.std.proofs.Common.{◌≡◌, ℕ, ◌+◌, ◌-◌, ◌^◌, ◌≤◌, ◌<◌, Bool, true, false, List, [], ◌∷◌, ◌++◌, length, take, refl, sym, ap, ◌∙◌, subst, arith}
 use Rattle.std.proofs.lemmas.List.{append-nil, take_all}
-use Rattle.delta.specs.Cells.{Cells, base_length, result_length, front, covers, inserts, joined, nothing}
-use Rattle.delta.specs.Steps.{after_step, cells_of, step_result, MayLead, IsCanonical}
+use Rattle.delta.specs.Cells.{Cells, base_length, result_length, covers, inserts, joined, nothing}
+use Rattle.delta.specs.Steps.{after_step, cells_of, MayLead, IsCanonical}
 use Rattle.delta.specs.Reading.{front_part, text_ahead, next_of}
 use Rattle.delta.specs.declared.steps.DeltaStep.{DeltaStep}
 use Rattle.delta.specs.declared.steps.DeltaStep.TheVariants.{Keep, Insert, Delete}
 use Rattle.delta.specs.declared.readers.NextStep.TheVariants.{Keep as KeepNext, Insert as InsertNext, Delete as DeleteNext}
 use Rattle.delta.proofs.CellsLemmas.{covers-covers, joined_nothing, base_length-joined, base_length-covers, base_length-inserts, result_length-kept, result_length-deleted, result_length-inserts}
+use Rattle.delta.proofs.StepsLemmas.{front-covers}
+use Rattle.delta.proofs.WriterLemmas.{result_length-after_step}
 use Rattle.transform.specs.Carried.{covers_if, daemon_text, editor_text, characters, carried}
 use Rattle.transform.specs.Walk.{number_if, room, step_room, Passes, PassesStep}
 use Rattle.transform.specs.declared.sides.Side.{Side}
 use Rattle.transform.specs.declared.sides.Side.TheVariants.{Editor, Daemon}
-use Rattle.transform.proofs.CarriedLemmas.{daemon_text_none, editor_text_none, carried-daemon_text, carried-editor_text, carried-characters, joined-editor_text, joined-daemon_text, joined-characters, base_length-covers_if, other_length, base_length-carried}
+use Rattle.transform.proofs.CarriedLemmas.{daemon_text_none, editor_text_none, carried-daemon_text, carried-editor_text, carried-characters}
+use Rattle.transform.proofs.CarriedLemmas.{joined-editor_text, joined-daemon_text, joined-characters, base_length-covers_if, other_length, base_length-carried}
 
 result_length-covers : (k : Bool) (n : ℕ) (d : Cells) → result_length (covers k n d) ≡ number_if k n + result_length d
 result_length-covers true n d = result_length-kept n d
@@ -47,16 +50,12 @@ room-text Editor j most t b a =
 room-text Daemon j most t b a =
     omega (arith, base_length-joined b (covers true (length t) nothing), base_length-covers true (length t) nothing, result_length-inserts t a)
 
-no_front : (j : Bool) (n : ℕ) (d : Cells) → 0 < n → front (covers j n d) ≡ []
-no_front j zero d h = absurd (omega (arith, h))
-no_front j (suc n) d h = refl
-
 -- a text of the editor
 Passes-text : (s : Side) (j : Bool) (most : ℕ) (t : List ℕ) (b a : Cells) → 0 < most → Passes s j most most b (joined b (editor_text s t nothing)) (inserts t a) a
 Passes-text s j most t b a some = record {
   gives = λ q.
       joined-editor_text s t b (carried s (covers j most q) a)
-      ∙ ap (joined b) (sym (carried-editor_text s t (covers j most q) a (no_front j most q some)));
+      ∙ ap (joined b) (sym (carried-editor_text s t (covers j most q) a (front-covers j most q some)));
   base = omega (arith, base_length-inserts t a);
   room = room-text s j most t b a;
 }
@@ -71,7 +70,8 @@ Passes-then s j most mid left b c d a e f h k = record {
   room = omega (arith, h.room, k.room);
 }
 
-pub part_kept : (s : Side) (j : Bool) (n taken most : ℕ) (ss ts : List DeltaStep) (b c : Cells) → next_of ss ≡ KeepNext n → taken ≤ most → c ≡ joined b (characters s j true taken nothing) → cells_of ss ≡ after_step (front_part taken ss) (cells_of ts)
+pub part_kept : (s : Side) (j : Bool) (n taken most : ℕ) (ss ts : List DeltaStep) (b c : Cells) → next_of ss ≡ KeepNext n → taken ≤ most
+    → c ≡ joined b (characters s j true taken nothing) → cells_of ss ≡ after_step (front_part taken ss) (cells_of ts)
     → Passes s j most (most - taken) b c (cells_of ss) (cells_of ts)
 part_kept s j n taken most [] ts b c is le built parts = cc
 part_kept s j n taken most (Keep m ∷ ss) ts b c is le built parts =
@@ -81,7 +81,8 @@ part_kept s j n taken most (Keep m ∷ ss) ts b c is le built parts =
 part_kept s j n taken most (Insert t ∷ ss) ts b c is le built parts = cc
 part_kept s j n taken most (Delete m ∷ ss) ts b c is le built parts = cc
 
-pub part_deleted : (s : Side) (j : Bool) (n taken most : ℕ) (ss ts : List DeltaStep) (b c : Cells) → next_of ss ≡ DeleteNext n → taken ≤ most → c ≡ joined b (characters s j false taken nothing) → cells_of ss ≡ after_step (front_part taken ss) (cells_of ts)
+pub part_deleted : (s : Side) (j : Bool) (n taken most : ℕ) (ss ts : List DeltaStep) (b c : Cells) → next_of ss ≡ DeleteNext n → taken ≤ most
+    → c ≡ joined b (characters s j false taken nothing) → cells_of ss ≡ after_step (front_part taken ss) (cells_of ts)
     → Passes s j most (most - taken) b c (cells_of ss) (cells_of ts)
 part_deleted s j n taken most [] ts b c is le built parts = cc
 part_deleted s j n taken most (Keep m ∷ ss) ts b c is le built parts = cc
@@ -91,7 +92,8 @@ part_deleted s j n taken most (Delete m ∷ ss) ts b c is le built parts =
     (subst (λ a. Passes s j most (most - taken) b (joined b (characters s j false taken nothing)) a (cells_of ts)) (sym parts)
     (Passes-characters s j false taken most (most - taken) b (cells_of ts) (omega (arith, le))))
 
-pub part_text : (s : Side) (j : Bool) (n most : ℕ) (u : List ℕ) (ss ts : List DeltaStep) (b c : Cells) → next_of ss ≡ InsertNext n → 0 < most → u ≡ take n (text_ahead ss) → c ≡ joined b (editor_text s u nothing) → cells_of ss ≡ after_step (front_part n ss) (cells_of ts)
+pub part_text : (s : Side) (j : Bool) (n most : ℕ) (u : List ℕ) (ss ts : List DeltaStep) (b c : Cells) → next_of ss ≡ InsertNext n → 0 < most → u ≡ take n (text_ahead ss)
+    → c ≡ joined b (editor_text s u nothing) → cells_of ss ≡ after_step (front_part n ss) (cells_of ts)
     → Passes s j most (most - 0) b c (cells_of ss) (cells_of ts)
 part_text s j n most u [] ts b c is some text built parts = cc
 part_text s j n most u (Keep m ∷ ss) ts b c is some text built parts = cc
@@ -117,26 +119,28 @@ step_text s t b a = record {
 
 ends_here : (ss : List DeltaStep) → IsCanonical ss → base_length (cells_of ss) ≡ 0 → ((n : ℕ) → next_of ss ≡ InsertNext n → ⊥) → cells_of ss ≡ nothing
 ends_here [] h none other = refl
-ends_here (Keep m ∷ ss) h none other = absurd (omega (arith, h.0, none, base_length-covers true m (cells_of ss)))
+ends_here (Keep m ∷ ss) h none other = absurd (omega (arith, h.0.content, none, base_length-covers true m (cells_of ss)))
 ends_here (Insert t ∷ ss) h none other = absurd (other (length t) refl)
-ends_here (Delete m ∷ ss) h none other = absurd (omega (arith, h.0, none, base_length-covers false m (cells_of ss)))
+ends_here (Delete m ∷ ss) h none other = absurd (omega (arith, h.0.content, none, base_length-covers false m (cells_of ss)))
 
 -- where nothing is left of either delta
-pub end_of : (s : Side) (ss : List DeltaStep) → IsCanonical ss → base_length (cells_of ss) ≡ 0 → ((n : ℕ) → next_of ss ≡ InsertNext n → ⊥) → (b : Cells) → b ≡ joined b (carried s nothing (cells_of ss))
-end_of s ss h none other b =
+pub nothing_left : (s : Side) (ss : List DeltaStep) → IsCanonical ss → base_length (cells_of ss) ≡ 0 → ((n : ℕ) → next_of ss ≡ InsertNext n → ⊥) → (b : Cells)
+    → b ≡ joined b (carried s nothing (cells_of ss))
+nothing_left s ss h none other b =
     sym (ap (λ a. joined b (carried s nothing a)) (ends_here ss h none other)
     ∙ ap (joined b) (daemon_text_none s (editor_text s [] nothing) ∙ editor_text_none s nothing)
     ∙ joined_nothing b)
 
 -- where a text of the editor is left
-pub end_text : (s : Side) (ss : List DeltaStep) (n : ℕ) (u : List ℕ) → next_of ss ≡ InsertNext n → IsCanonical ss → base_length (cells_of ss) ≡ 0 → u ≡ take n (text_ahead ss) → editor_text s u nothing ≡ carried s nothing (cells_of ss)
+pub end_text : (s : Side) (ss : List DeltaStep) (n : ℕ) (u : List ℕ) → next_of ss ≡ InsertNext n → IsCanonical ss → base_length (cells_of ss) ≡ 0 → u ≡ take n (text_ahead ss)
+    → editor_text s u nothing ≡ carried s nothing (cells_of ss)
 end_text s [] n u is h none text = cc
 end_text s (Keep m ∷ ss) n u is h none text = cc
 end_text s (Insert t ∷ ss) n u is h none text =
     let long : length t ≡ n = cc in
     let same : u ≡ t = text ∙ take_all n t (omega (arith, long)) in
     let last : cells_of ss ≡ nothing =
-    ends_here ss h.2 (omega (arith, none, base_length-inserts t (cells_of ss))) (λ m e. no_more ss m e h.1) in
+    ends_here ss h.1 (omega (arith, none, base_length-inserts t (cells_of ss))) (λ m e. no_more ss m e h.0.leads) in
     ap (λ l. editor_text s l nothing) (same ∙ sym (append-nil t))
     ∙ sym (daemon_text_none s (editor_text s (t ++ []) nothing))
     ∙ ap (λ a. carried s nothing (inserts t a)) (sym last) where
@@ -177,7 +181,8 @@ kept_fits Editor j n m most b d long le fits =
 kept_fits Daemon j n m most b d long le fits =
     omega (arith, fits, base_length-covers_if true j n nothing, result_length-kept m d, long)
 
-pub part_kept_fits : (s : Side) (j : Bool) (n taken most b : ℕ) (ss : List DeltaStep) → next_of ss ≡ KeepNext n → taken ≤ n → taken ≤ most → b + room s j most (cells_of ss) < 2 ^ 64 → b + base_length (characters s j true taken nothing) < 2 ^ 64
+pub part_kept_fits : (s : Side) (j : Bool) (n taken most b : ℕ) (ss : List DeltaStep) → next_of ss ≡ KeepNext n → taken ≤ n → taken ≤ most
+    → b + room s j most (cells_of ss) < 2 ^ 64 → b + base_length (characters s j true taken nothing) < 2 ^ 64
 part_kept_fits s j n taken most b [] is long le fits = cc
 part_kept_fits s j n taken most b (Keep m ∷ ss) is long le fits =
     let same : m ≡ n = cc in kept_fits s j taken m most b (cells_of ss) (omega (arith, same, long)) le fits
@@ -195,7 +200,8 @@ text_fits Editor j most b t u d same fits = omega (arith, fits, base_length-inse
 text_fits Daemon j most b t u d same fits =
     omega (arith, fits, base_length-covers true (length u) nothing, ap length same, result_length-inserts t d)
 
-pub part_text_fits : (s : Side) (j : Bool) (n most b : ℕ) (u : List ℕ) (ss : List DeltaStep) → next_of ss ≡ InsertNext n → u ≡ take n (text_ahead ss) → b + room s j most (cells_of ss) < 2 ^ 64 → b + base_length (editor_text s u nothing) < 2 ^ 64
+pub part_text_fits : (s : Side) (j : Bool) (n most b : ℕ) (u : List ℕ) (ss : List DeltaStep) → next_of ss ≡ InsertNext n → u ≡ take n (text_ahead ss)
+    → b + room s j most (cells_of ss) < 2 ^ 64 → b + base_length (editor_text s u nothing) < 2 ^ 64
 part_text_fits s j n most b u [] is text fits = cc
 part_text_fits s j n most b u (Keep m ∷ ss) is text fits = cc
 part_text_fits s j n most b u (Insert t ∷ ss) is text fits =
@@ -213,17 +219,13 @@ step_text_fits s step t u b a is same fits =
     (step_text_fits_by s t b a (subst (λ r. b + step_room s r a < 2 ^ 64) is fits))
 
 -- the base of what is built, and the room that is left
-pub whole_fits : (s : Side) (b d e q p : Cells) → joined b (carried s d e) ≡ carried s q p → base_length d ≡ base_length e → base_length q ≡ base_length p → result_length q < 2 ^ 64 → result_length p < 2 ^ 64 → base_length b + other_length s d e < 2 ^ 64
+pub whole_fits : (s : Side) (b d e q p : Cells) → joined b (carried s d e) ≡ carried s q p → base_length d ≡ base_length e → base_length q ≡ base_length p
+    → result_length q < 2 ^ 64 → result_length p < 2 ^ 64 → base_length b + other_length s d e < 2 ^ 64
 whole_fits s b d e q p gives left lengths q_fits p_fits =
     omega (arith, ap base_length gives, base_length-joined b (carried s d e), base_length-carried s d e left, base_length-carried s q p lengths, by_side s) where
       by_side : (s : Side) → other_length s q p < 2 ^ 64
       by_side Editor = q_fits
       by_side Daemon = p_fits
-
-result_length-after_step : (r : DeltaStep) (d : Cells) → result_length (after_step r d) ≡ step_result r + result_length d
-result_length-after_step (Keep n) d = result_length-kept n d
-result_length-after_step (Insert t) d = result_length-inserts t d
-result_length-after_step (Delete n) d = omega (arith, result_length-deleted n d)
 
 pub step_room-le : (s : Side) (r : DeltaStep) (d e a : Cells) → e ≡ after_step r d → step_room s r a ≤ other_length s e a
 step_room-le Editor r d e a is = omega (arith, ap result_length is, result_length-after_step r d)

@@ -1,6 +1,7 @@
 -- What an editor and a daemon changed in one text at the same time, and what is left of each change
 -- once the other was applied (the inclusion transformation of operational transformation, Sun,
--- Jia, Zhang, Yang and Chen, 1998). At one gap the daemon's text stands before the editor's.
+-- Jia, Zhang, Yang and Chen, 1998). That at one gap the daemon's text stands before the editor's is
+-- this project's own, as is the normal form of what is carried.
 use Rattle.std.specs.Prelude.{◌≡◌, ℕ, Bool, true, false, ◌&&◌, List, [], ◌∷◌, ◌++◌, length}
 use Rattle.delta.specs.Cells.{Cell, Cells, base_length, result_length, keeps, covers, inserts, nothing, normal, applied}
 use Rattle.transform.specs.declared.sides.Side.{Side}

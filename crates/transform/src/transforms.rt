@@ -1,13 +1,24 @@
+//! A delta carried past another on the same text, in one walk over the steps of both: what both cover
+//! is handled run by run, and a text of either side where it stands.
+//!
+//! The rule is the inclusion transformation of Sun, Jia, Zhang, Yang and Chen (1998). That the daemon's
+//! text stands before the editor's at one gap is this project's own, and so is the normal form. One walk
+//! serves both sides, so the order of two texts stands in one place.
+//!
+//! It is right since each step leaves what is built, joined with the carrying of what is left of both,
+//! as it was (`Passes`); at the end nothing is left.
 ghost use Rattle.std.specs.Prelude.{◌≡◌, ◌+◌, ◌-◌, ◌^◌, ◌<◌, ◌≤◌, true, false, length, IfOk, OnOk};
 ghost use Rattle.delta.specs.Cells.{base_length, joined, normal, nothing};
 ghost use Rattle.delta.specs.Steps.{cells_of, step_base};
 ghost use Rattle.delta.specs.Reading.{size_of};
 ghost use Rattle.transform.specs.Carried.{carried, characters, covers_if, daemon_text, editor_text, after_editor, after_daemon};
+ghost use Rattle.transform.specs.Gaps.{editor_by_gaps, daemon_by_gaps};
 ghost use Rattle.transform.specs.Walk.{room, step_room, Passes, PassesStep};
 
 use crate::sides::Side;
 use delta::{Delta, DeltaBuilder, DeltaStep, NextStep, StepReader};
 use std::alloc::{AllocError, Global};
+use tt_base::Text;
 
 /// Keeps or deletes the next characters of the base, where they are there.
 fn cover_if(
@@ -51,15 +62,15 @@ fn pass_characters(
 fn pass_editor_text(
     alloc: Global,
     side: Side,
-    chars: &[char],
+    text: Text,
     built: &mut DeltaBuilder,
 ) -> Result<(), AllocError>
-    requires { base_length built.old + base_length (editor_text side chars.now nothing) < 2 ^ 64 }
-    ensures { OnOk result (built.new ≡ joined built.old (editor_text side chars.now nothing)) }
+    requires { base_length built.old + base_length (editor_text side text nothing) < 2 ^ 64 }
+    ensures { OnOk result (built.new ≡ joined built.old (editor_text side text nothing)) }
 {
     match side {
-        Side::Editor => built.insert_slice(alloc, chars),
-        Side::Daemon => built.keep(alloc, chars.len()),
+        Side::Editor => built.insert_text(alloc, text),
+        Side::Daemon => built.keep(alloc, text.len()),
     }
 }
 
@@ -67,15 +78,15 @@ fn pass_editor_text(
 fn pass_daemon_text(
     alloc: Global,
     side: Side,
-    chars: &[char],
+    text: &Text,
     built: &mut DeltaBuilder,
 ) -> Result<(), AllocError>
-    requires { base_length built.old + base_length (daemon_text side chars.now nothing) < 2 ^ 64 }
-    ensures { OnOk result (built.new ≡ joined built.old (daemon_text side chars.now nothing)) }
+    requires { base_length built.old + base_length (daemon_text side text.now nothing) < 2 ^ 64 }
+    ensures { OnOk result (built.new ≡ joined built.old (daemon_text side text.now nothing)) }
 {
     match side {
-        Side::Editor => built.keep(alloc, chars.len()),
-        Side::Daemon => built.insert_slice(alloc, chars),
+        Side::Editor => built.keep(alloc, text.len()),
+        Side::Daemon => built.insert(alloc, text),
     }
 }
 
@@ -104,7 +115,8 @@ fn pass_part(
             Ok(taken)
         }
         NextStep::Insert(n) => {
-            pass_editor_text(alloc, side, editor.text(n), built)?;
+            let text = editor.text(alloc, n)?;
+            pass_editor_text(alloc, side, text, built)?;
             editor.advance(n);
             Ok(0)
         }
@@ -152,7 +164,7 @@ fn pass_step(
 {
     match step {
         DeltaStep::Keep(n) => pass_run(alloc, side, true, *n, editor, built),
-        DeltaStep::Insert(text) => pass_daemon_text(alloc, side, text.as_slice(), built),
+        DeltaStep::Insert(text) => pass_daemon_text(alloc, side, text, built),
         DeltaStep::Delete(n) => pass_run(alloc, side, false, *n, editor, built),
     }
 }
@@ -169,7 +181,10 @@ fn pass_end(
     ensures { OnOk result (built.new ≡ joined built.old (carried side nothing (cells_of editor.now))) }
 {
     match editor.next() {
-        NextStep::Insert(n) => pass_editor_text(alloc, side, editor.text(n), built),
+        NextStep::Insert(n) => {
+            let last = editor.text(alloc, n)?;
+            pass_editor_text(alloc, side, last, built)
+        }
         _ => Ok(()),
     }
 }
@@ -192,7 +207,10 @@ fn pass(alloc: Global, side: Side, daemon: &Delta, editor: &Delta) -> Result<Del
 /// The editor's delta `p`, carried past the daemon's delta `q` on the same text.
 pub fn pass_editor(alloc: Global, p: &Delta, q: &Delta) -> Result<Delta, AllocError>
     requires { base_length p.now ≡ base_length q.now }
-    ensures { IfOk result (λ carried. carried ≡ after_editor p.now q.now) }
+    // Cell by cell.
+    ensures cells { IfOk result (λ carried. carried ≡ after_editor p.now q.now) }
+    // By the gap formulas: a gap moves by what `q` keeps before it and inserts up to it.
+    ensures gaps { IfOk result (λ carried. carried ≡ editor_by_gaps p.now q.now) }
 {
     let carried = pass(alloc, Side::Editor, q, p)?;
     Ok(carried)
@@ -201,7 +219,11 @@ pub fn pass_editor(alloc: Global, p: &Delta, q: &Delta) -> Result<Delta, AllocEr
 /// The daemon's delta `q`, carried past the editor's delta `p` on the same text.
 pub fn pass_daemon(alloc: Global, q: &Delta, p: &Delta) -> Result<Delta, AllocError>
     requires { base_length q.now ≡ base_length p.now }
-    ensures { IfOk result (λ carried. carried ≡ after_daemon q.now p.now) }
+    // Cell by cell.
+    ensures cells { IfOk result (λ carried. carried ≡ after_daemon q.now p.now) }
+    // By the gap formulas: a gap moves by what `p` keeps and inserts before it, and a character also
+    // by what `p` inserts at the gap before it.
+    ensures gaps { IfOk result (λ carried. carried ≡ daemon_by_gaps q.now p.now) }
 {
     let carried = pass(alloc, Side::Daemon, q, p)?;
     Ok(carried)

@@ -1,7 +1,7 @@
 use Rattle.std.proofs.Common.{◌≡◌, sym, ap, ◌∙◌, arith}
 use Rattle.std.proofs.lemmas.Result.{on_ok_weaker}
 use Rattle.delta.specs.Cells.{joined, deleting}
-use Rattle.delta.proofs.ComposingLemmas.{size_ahead-delete, end_of, end_deleted}
+use Rattle.delta.proofs.ComposingLemmas.{size_ahead-delete, nothing_left, end_deleted}
 use Rattle.delta.proofs.composition.compose_end.Goals as goal
 
 pub delete-requires : goal.delete-requires
@@ -15,4 +15,4 @@ returns-in-Delete c =
 
 pub returns-in_default : goal.returns-in_default
 returns-in_default c =
-    end_of c.args.first.now c.next.ensures.canonical c.requires.short (λ n is. c.in_default.not-Delete n (c.next.ensures.next ∙ is)) c.args.built.now
+    nothing_left c.args.first.now c.next.ensures.canonical c.requires.short (λ n is. c.in_default.not-Delete n (c.next.ensures.next ∙ is)) c.args.built.now

@@ -18,9 +18,11 @@ returns-in_ok-cover-in-Keep-clause-composes c =
 pub returns-in_ok-insert_kept-in-Insert-clause-composes :
     goal.returns-in_ok-insert_kept-in-Insert-clause-composes
 returns-in_ok-insert_kept-in-Insert-clause-composes c =
-    part_inserted c.args.kept c.in-Insert.n c.min-taken-in-Insert.result c.text.result.now c.args.first.now c.advance-in-Insert.new.self c.args.built.now _ (sym c.in-Insert.ensures.next) (omega (arith, c.min-taken-in-Insert.ensures)) c.text.ensures c.in_ok-insert_kept-in-Insert.ensures c.advance-in-Insert.ensures.cells
+    part_inserted c.args.kept c.in-Insert.n c.min-taken-in-Insert.result c.in_ok-text-in-Insert.text c.args.first.now c.advance-in-Insert.new.self c.args.built.now _
+    (sym c.in-Insert.ensures.next) (omega (arith, c.min-taken-in-Insert.ensures)) c.in_ok-text-in-Insert.ensures c.in_ok-insert_kept-in-Insert.ensures c.advance-in-Insert.ensures.cells
 
 pub returns-in_ok-delete-in-Delete-clause-composes :
     goal.returns-in_ok-delete-in-Delete-clause-composes
 returns-in_ok-delete-in-Delete-clause-composes c =
-    part_deleted c.args.kept c.in-Delete.n c.args.first.now c.advance-in-Delete.new.self c.args.built.now _ (sym c.in-Delete.ensures.next) c.in_ok-delete-in-Delete.ensures.ok c.advance-in-Delete.ensures.cells
+    part_deleted c.args.kept c.in-Delete.n c.args.first.now c.advance-in-Delete.new.self c.args.built.now _ (sym c.in-Delete.ensures.next) c.in_ok-delete-in-Delete.ensures.ok
+    c.advance-in-Delete.ensures.cells

@@ -11,5 +11,6 @@ loop-left-preserved c =
     let sum : (n - left) + taken ≡ n - (left - taken) = omega (arith, c.loop-left.invariant.most, c.in_ok-left.ensures.most) in record {
       most = omega (arith, c.loop-left.invariant.most);
       composes =
-          Composes-then c.args.kept (n - left) taken _ _ _ _ (cells_of c.args.first.now) (cells_of c.loop-left.first) (cells_of c.compose_part.new.first) sum c.loop-left.invariant.composes c.in_ok-left.ensures.composes;
+          Composes-then c.args.kept (n - left) taken _ _ _ _ (cells_of c.args.first.now) (cells_of c.loop-left.first) (cells_of c.compose_part.new.first) sum
+          c.loop-left.invariant.composes c.in_ok-left.ensures.composes;
     }

@@ -22,16 +22,17 @@ loop-step-preserved c =
     let steps = c.as_slice-step-items.result.now in
     let i = c.loop-step.step-index in record {
       whole =
-          written_more c.as_slice-chars.result.now c.loop-step.gap.place c.in_ok-gap.gap.place c.loop-step.gap.waiting.now c.in_ok-gap.gap.waiting.now c.loop-step.edits.items c.write_step.new.edits.items _ steps i c.step-item.result c.loop-step-test.true c.step-item.is c.in_ok-gap.ensures.edits c.in_ok-gap.ensures.place c.in_ok-gap.ensures.waiting c.loop-step.invariant.whole;
+          written_more c.args.text.now c.loop-step.gap.place c.in_ok-gap.gap.place c.loop-step.gap.waiting.now c.in_ok-gap.gap.waiting.now c.loop-step.edits.items
+          c.write_step.new.edits.items _ steps i c.step-item.result c.loop-step-test.true c.step-item.is c.in_ok-gap.ensures.edits c.in_ok-gap.ensures.place
+          c.in_ok-gap.ensures.waiting c.loop-step.invariant.whole;
       base =
           omega (arith, c.loop-step.invariant.base, c.in_ok-gap.ensures.place, base_length-step steps i c.step-item.result c.loop-step-test.true c.step-item.is);
-      position = c.in_ok-gap.ensures.position;
     }
 
 pub returns : goal.returns
 returns c =
     let steps = c.as_slice-step-items.result.now in
-    let chars = c.as_slice-chars.result.now in
+    let chars = c.args.text.now in
     let none : drop c.loop-step.step-index steps ≡ [] = drop_all c.loop-step.step-index steps c.loop-step-test.false in
     let P : List DeltaStep → Type 0 = λ ss. IsCanonical ss in
     let canonical : IsCanonical steps = subst P (sym c.as_slice-step-items.ensures) c.steps.ensures.canonical in
@@ -40,8 +41,7 @@ returns c =
     c.in_ok-push_waiting.ensures
     ∙ ap (λ ss. c.loop-step.edits.items ++ map (edit_for chars) (changes_ahead c.loop-step.gap.place c.loop-step.gap.waiting.now ss)) (sym none)
     ∙ c.loop-step.invariant.whole
-    ∙ ap (map (edit_for chars)) (changes_of-cells_of steps canonical ∙ ap changes_of cells)
-    ∙ ap (λ t. map (edit_for t) (changes_of c.args.d.now)) c.as_slice-chars.ensures in
+    ∙ ap (map (edit_for chars)) (changes_of-cells_of steps canonical ∙ ap changes_of cells) in
     let edits : c.from_vec.result ≡ edits_of c.args.text.now c.args.d.now = c.from_vec.ensures ∙ c.reverse.ensures.items ∙ ap reverse written in
     let long : base_length (cells_of steps) ≡ length c.args.text.now = ap base_length cells ∙ c.requires in
     let Apart : Cells → Type 0 = λ d. AreApart c.args.text.now (length c.args.text.now + 1) (edits_of c.args.text.now d) in

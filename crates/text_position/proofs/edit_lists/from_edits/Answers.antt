@@ -1,20 +1,25 @@
-use Rattle.std.proofs.Common.{◌≡◌, true, length, Err, ◌⊎◌, rules, ap, ◌∙◌, arith}
-use Rattle.delta.specs.Cells.{base_length, keeping, nothing}
-use Rattle.delta.proofs.CellsLemmas.{base_length-covers}
-use Rattle.text_position.specs.Edits.{with_edits, delta_of_edits}
+use Rattle.std.proofs.Common.{◌≡◌, ◌∷◌, Err, Result, ◌⊎◌, rules, sym, ap, ◌∙◌, subst}
+use Rattle.tt_base.specs.Answers.{Gives}
+use Rattle.delta.specs.Cells.{Cells}
+use Rattle.text_position.specs.Edits.{delta_of_edits}
+use Rattle.text_position.specs.declared.faults.EditsFault.{EditsFault}
 use Rattle.text_position.specs.declared.faults.EditsFault.TheVariants.{Memory}
-use Rattle.text_position.proofs.EditLemmas.{with_edits-refused}
+use Rattle.text_position.proofs.LawLemmas.{first_edit, first_gives_refusal}
 use Rattle.text_position.proofs.edit_lists.from_edits.Goals as goal
 
-pub loop-index-init : goal.loop-index-init
-loop-index-init c =
-    let is : c.in_ok-delta.delta ≡ keeping (length c.args.text.now) = c.in_ok-delta.ensures ∙ ap keeping c.len.ensures in record {
-      gives = ap (λ d. with_edits 0 c.args.text.now d c.args.edits.now) is;
-      base = omega (arith, ap base_length is, base_length-covers true (length c.args.text.now) nothing);
-    }
-
-pub returns-in_err-delta-2 : goal.returns-in_err-delta-2
-returns-in_err-delta-2 c =
-    let refused : (delta_of_edits c.args.text.now c.args.edits.now ≡ Err c.in_err-delta-2.field-0.0) ⊎ (c.in_err-delta-2.field-0.0 ≡ Memory) =
-    with_edits-refused c.loop-index.index c.args.text.now c.loop-index.delta c.args.edits.now c.index-edits-index.result _ _ c.loop-index-test.true c.index-edits-index.is c.in_err-delta-2.ensures.gives c.loop-index.invariant.gives in
+pub returns-in_err-delta-2-clause-gives : goal.returns-in_err-delta-2-clause-gives
+returns-in_err-delta-2-clause-gives c =
+    let fault = c.in_err-delta-2.field-0.0 in
+    let cut : c.args.edits.now ≡ c.in-Some.first.now ∷ c.in-Some.rest.now = c.in-Some.ensures.cases.0 in
+    let refused : (delta_of_edits c.args.text.now c.args.edits.now ≡ Err fault) ⊎ (fault ≡ Memory) =
+    first_gives_refusal c.args.text.now c.args.edits.now c.in-Some.first.now c.in-Some.rest.now fault cut c.in_err-delta-2.ensures.gives in
     search rules
+
+pub returns-clause-gives : goal.returns-clause-gives
+returns-clause-gives c =
+    let text = c.args.text.now in
+    let first = c.in-Some.first.now in
+    let rest = c.in-Some.rest.now in
+    let cut : c.args.edits.now ≡ first ∷ rest = c.in-Some.ensures.cases.0 in
+    let P : Result Cells EditsFault → Type 0 = λ expected. Gives Memory c.then_edits.result expected in
+    subst P (first_edit text first rest c.in_ok-delta-2.delta c.in_ok-delta-2.ensures.gives ∙ ap (delta_of_edits text) (sym cut)) c.then_edits.ensures

@@ -1,7 +1,8 @@
 use Rattle.std.proofs.Common.{ap, ◌∙◌}
 use Rattle.delta.specs.Cells.{nothing, keeping, normal}
 use Rattle.delta.proofs.NormalLemmas.{normal_is_fixed}
-use Rattle.text_position.proofs.EditLemmas.{built_keep, IsNormal-kept}
+use Rattle.delta.proofs.StepsLemmas.{IsNormal-kept}
+use Rattle.text_position.proofs.EditLemmas.{built_keep}
 use Rattle.text_position.proofs.edit_lists.keep_all.Goals as goal
 
 pub returns : goal.returns

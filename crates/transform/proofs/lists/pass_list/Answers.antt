@@ -9,9 +9,10 @@ loop-q-preserved c =
     let q = c.q-item.result in
     let carried = c.in_ok-delta.delta in record {
       chain =
-          chain_rest list i p q carried c.loop-q-test.true c.q-item.is c.loop-q.invariant.chain c.in_ok-delta.ensures;
+          chain_rest list i p q carried c.loop-q-test.true c.q-item.is c.loop-q.invariant.chain c.in_ok-delta.ensures.cells;
       delta =
-          past_list-step list i p q carried _ c.loop-q-test.true c.q-item.is c.in_ok-delta.ensures c.loop-q.invariant.delta;
+          past_list-step list i p q carried _ c.loop-q-test.true c.q-item.is c.in_ok-delta.ensures.cells c.loop-q.invariant.delta;
       list =
-          list_past-step list i p q carried c.in_ok-pass_daemon.field-0 c.loop-q.passed.items c.push.new.self.items _ c.loop-q-test.true c.q-item.is c.in_ok-delta.ensures c.in_ok-pass_daemon.ensures c.in_ok-push.ensures.items c.loop-q.invariant.list;
+          list_past-step list i p q carried c.in_ok-pass_daemon.field-0 c.loop-q.passed.items c.push.new.self.items _ c.loop-q-test.true c.q-item.is c.in_ok-delta.ensures.cells
+          c.in_ok-pass_daemon.ensures.cells c.in_ok-push.ensures.items c.loop-q.invariant.list;
     }

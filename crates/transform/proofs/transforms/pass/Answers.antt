@@ -17,7 +17,9 @@ pass_step-requires-clause-fits c =
     let i = c.loop-step.step-index in
     let q : Cells = cells_of (drop i steps) in
     let p : Cells = cells_of c.loop-step.ahead in
-    omega (arith, whole_fits c.args.side c.loop-step.built q p c.args.daemon.now c.args.editor.now c.loop-step.invariant.gives (sym c.loop-step.invariant.base) c.requires c.steps.ensures.result_fits c.new-ahead.ensures.result_fits, step_room-le c.args.side c.step-item.result (cells_of (drop (i + 1) steps)) q p (cells_of-drop steps i c.step-item.result c.loop-step-test.true c.step-item.is))
+    let fits = whole_fits c.args.side c.loop-step.built q p c.args.daemon.now c.args.editor.now c.loop-step.invariant.gives (sym c.loop-step.invariant.base) c.requires
+    c.steps.ensures.result_fits c.new-ahead.ensures.result_fits in
+    omega (arith, fits, step_room-le c.args.side c.step-item.result (cells_of (drop (i + 1) steps)) q p (cells_of-drop steps i c.step-item.result c.loop-step-test.true c.step-item.is))
 
 pub loop-step-preserved : goal.loop-step-preserved
 loop-step-preserved c =
@@ -38,4 +40,7 @@ pass_end-requires-clause-fits c =
     let i = c.loop-step.step-index in
     let p : Cells = cells_of c.loop-step.ahead in
     let none = ap cells_of (drop_all i steps c.loop-step-test.false) in
-    omega (arith, whole_fits c.args.side c.loop-step.built nothing p c.args.daemon.now c.args.editor.now (ap (λ q. joined c.loop-step.built (carried c.args.side q p)) (sym none) ∙ c.loop-step.invariant.gives) (sym (c.loop-step.invariant.base ∙ ap base_length none)) c.requires c.steps.ensures.result_fits c.new-ahead.ensures.result_fits, end_room-le c.args.side p)
+    let gives = ap (λ q. joined c.loop-step.built (carried c.args.side q p)) (sym none) ∙ c.loop-step.invariant.gives in
+    let fits = whole_fits c.args.side c.loop-step.built nothing p c.args.daemon.now c.args.editor.now gives (sym (c.loop-step.invariant.base ∙ ap base_length none)) c.requires
+    c.steps.ensures.result_fits c.new-ahead.ensures.result_fits in
+    omega (arith, fits, end_room-le c.args.side p)

@@ -1,4 +1,4 @@
-use Rattle.std.proofs.Common.{◌≡◌, sym, ap, ◌∙◌, subst}
+use Rattle.std.proofs.Common.{◌≡◌, refl, sym, subst}
 use Rattle.std.proofs.lemmas.Result.{on_ok_weaker}
 use Rattle.delta.specs.Cells.{Cells, base_length, joined, nothing}
 use Rattle.delta.specs.Steps.{cells_of}
@@ -10,7 +10,7 @@ use Rattle.transform.proofs.transforms.pass_step.Goals as goal
 
 pub pass_daemon_text-requires : goal.pass_daemon_text-requires
 pass_daemon_text-requires c =
-    step_text_fits c.args.side c.args.step.now c.in-Insert.text c.as_slice.result.now (base_length c.args.built.now) (cells_of c.args.editor.now) c.in-Insert.is c.as_slice.ensures c.requires.fits
+    step_text_fits c.args.side c.args.step.now c.in-Insert.text c.in-Insert.text (base_length c.args.built.now) (cells_of c.args.editor.now) c.in-Insert.is refl c.requires.fits
 
 pub returns-in-Insert : goal.returns-in-Insert
 returns-in-Insert c =
@@ -18,6 +18,6 @@ returns-in-Insert c =
     let s = c.args.side in
     let text = c.in-Insert.text in
     let b = c.args.built.now in
-    on_ok_weaker c.pass_daemon_text.result (λ (built : c.pass_daemon_text.new.built ≡ joined b (daemon_text s c.as_slice.result.now nothing)).
+    on_ok_weaker c.pass_daemon_text.result (λ (built : c.pass_daemon_text.new.built ≡ joined b (daemon_text s text nothing)).
     subst (λ r. PassesStep s r b c.pass_daemon_text.new.built a a) (sym c.in-Insert.is)
-    (subst (λ e. PassesStep s (Insert text) b e a a) (sym (built ∙ ap (λ t. joined b (daemon_text s t nothing)) c.as_slice.ensures)) (step_text s text b a))) c.pass_daemon_text.ensures
+    (subst (λ e. PassesStep s (Insert text) b e a a) (sym built) (step_text s text b a))) c.pass_daemon_text.ensures

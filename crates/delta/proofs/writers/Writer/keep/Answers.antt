@@ -21,7 +21,8 @@ pub invariant_of-result : goal.invariant_of-result
 invariant_of-result c =
     let w = c.self.inside in
     let empty : w.text.items ≡ [] = nil_from_length w.text.items (omega (arith, w.text.ok.0, eqb-true _ _ (sym c.if-is_empty.ensures))) in
-    IsWriting-keeps w.written.items w.kept w.text.items w.deleted w.length c.args.count c.in_ok-length.length empty c.if-deleted-eq0.true c.self.invariant c.in_ok-length.ensures.sum c.in_ok-length.ensures.fits
+    IsWriting-keeps w.written.items w.kept w.text.items w.deleted w.length c.args.count c.in_ok-length.length empty c.if-deleted-eq0.true c.self.invariant
+    c.in_ok-length.ensures.sum c.in_ok-length.ensures.fits
 
 pub returns-then-deleted-eq0 : goal.returns-then-deleted-eq0
 returns-then-deleted-eq0 c =
@@ -40,7 +41,8 @@ invariant_of-result-2 c =
       | else-is_empty-via-then-is_empty+else-deleted-eq0 b ↦ inr (omega (arith, b.if-deleted-eq0.false))
       | else-is_empty-via-else-is_empty b ↦ inl (longer w.text.items _ w.text.ok.0 b.if-is_empty.ensures)
     ] in
-    IsWriting-begins w.written.items _ w.kept w.text.items c.new.result.items w.deleted w.length c.args.count c.in_ok-length.length c.in_ok-write_group.ensures c.new.ensures.items change (omega (arith, c.if-count-eq0.false)) c.self.invariant c.in_ok-length.ensures.sum c.in_ok-length.ensures.fits
+    IsWriting-begins w.written.items _ w.kept w.text.items c.new.result.items w.deleted w.length c.args.count c.in_ok-length.length c.in_ok-write_group.ensures c.new.ensures.items
+    change (omega (arith, c.if-count-eq0.false)) c.self.invariant c.in_ok-length.ensures.sum c.in_ok-length.ensures.fits
 
 pub returns : goal.returns
 returns c =
