@@ -58,7 +58,8 @@ All-plain (b ∷ high ∷ low ∷ rest) plain =
     (λ escape.
     let parts = escape_parts b high low escape in
     let after = All-plain rest (rw escape at plain) in
-    All-cons IsPlainByte b (high ∷ low ∷ rest) (rw parts.percent refl) (All-cons IsPlainByte high (low ∷ rest) (plain_digit high parts.first) (All-cons IsPlainByte low rest (plain_digit low parts.second) after)))
+    All-cons IsPlainByte b (high ∷ low ∷ rest) (rw parts.percent refl) (All-cons IsPlainByte high (low ∷ rest) (plain_digit high parts.first)
+    (All-cons IsPlainByte low rest (plain_digit low parts.second) after)))
     (λ none.
     let both = and_parts (is_kept b) (is_plain_text (high ∷ low ∷ rest)) (rw none at plain) in
     All-cons IsPlainByte b (high ∷ low ∷ rest) (plain_from_kept b both.0) (All-plain (high ∷ low ∷ rest) both.1))
@@ -78,12 +79,14 @@ is_plain_text-escape b high low rest escape = cond-true _ _ _ escape
 
 -- ---- the first byte
 
-escape_value : (high low byte : ℕ) (rest : List ℕ) → is_escape 37 high low ≡ true → byte ≡ 16 * digit_value high + digit_value low → percent_decode (37 ∷ high ∷ low ∷ rest) ≡ byte ∷ percent_decode rest
+escape_value : (high low byte : ℕ) (rest : List ℕ) → is_escape 37 high low ≡ true → byte ≡ 16 * digit_value high + digit_value low
+    → percent_decode (37 ∷ high ∷ low ∷ rest) ≡ byte ∷ percent_decode rest
 escape_value high low byte rest escape value =
     let parts = escape_parts 37 high low escape in
     percent_decode_escape 37 high low rest refl parts.first parts.second ∙ ap (λ b. b ∷ percent_decode rest) (sym value)
 
-pub BeginsWith-escape : (text : List ℕ) (byte : ℕ) → 3 ≤ length text → get_or text 0 0 ≡ 37 → is_escape 37 (get_or text 1 0) (get_or text 2 0) ≡ true → byte ≡ 16 * digit_value (get_or text 1 0) + digit_value (get_or text 2 0) → BeginsWith text byte (drop 3 text)
+pub BeginsWith-escape : (text : List ℕ) (byte : ℕ) → 3 ≤ length text → get_or text 0 0 ≡ 37 → is_escape 37 (get_or text 1 0) (get_or text 2 0) ≡ true
+    → byte ≡ 16 * digit_value (get_or text 1 0) + digit_value (get_or text 2 0) → BeginsWith text byte (drop 3 text)
 BeginsWith-escape [] byte long percent escape value = absurd (omega arith)
 BeginsWith-escape (b ∷ []) byte long percent escape value = absurd (omega arith)
 BeginsWith-escape (b ∷ c ∷ []) byte long percent escape value = absurd (omega arith)

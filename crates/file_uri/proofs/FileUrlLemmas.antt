@@ -1,14 +1,14 @@
 -- What is known of a text that is the URL of a file on this host.
-use Rattle.std.proofs.Common.{◌≡◌, false, cond, Ok, Err, codes, bytes_eq, sym, ap, ◌∙◌, ⊎_elim}
+use Rattle.std.proofs.Common.{◌≡◌, false, cond, Result, Ok, Err, codes, bytes_eq, sym, ap, ◌∙◌, ⊎_elim}
 use Rattle.std.proofs.lemmas.Bool.{cases_Bool, cond-true, cond-false}
 use Rattle.std.proofs.lemmas.Slice.Eq.{bytes_eq-Decides}
 use Rattle.url.specs.Parts.{Parts, has_host}
 use Rattle.url.specs.Parser.{Parsed}
 use Rattle.file_uri.specs.declared.faults.UriFault.TheVariants.{NotAUri, NotFile, HasHost}
-use Rattle.file_uri.specs.Reading.{Reading}
+use Rattle.file_uri.specs.declared.faults.UriFault.{UriFault}
 use Rattle.file_uri.specs.FileUrl.{on_this_host, local_file}
 
-abbrev accepted : Parts → Reading Parts
+abbrev accepted : Parts → Result Parts UriFault
 accepted url = Ok url
 
 pub record IsLocal (read url : Parts) : Type 0 where

@@ -1,6 +1,7 @@
 -- A plain text behind a directory's path is a list of segments that the URL Standard's parser
 -- leaves as they are.
-use Rattle.std.proofs.Common.{◌≡◌, ◌≢◌, ℕ, ◌+◌, ◌*◌, ◌<◌, ◌≤◌, true, false, ◌&&◌, ◌||◌, ◌==◌, ◌⊎◌, List, [], ◌∷◌, ◌++◌, length, drop, All, sym, refl, ap, ◌∙◌, subst, inl, inr, ⊎_elim, arith, append_assoc, append-nil}
+use Rattle.std.proofs.Common.{◌≡◌, ◌≢◌, ℕ, ◌+◌, ◌*◌, ◌<◌, ◌≤◌, true, false, ◌&&◌, ◌||◌, ◌==◌, ◌⊎◌, List, []}
+use Rattle.std.proofs.Common.{◌∷◌, ◌++◌, length, drop, All, sym, refl, ap, ◌∙◌, subst, inl, inr, ⊎_elim, arith, append_assoc, append-nil}
 use Rattle.std.specs.List.{list_any}
 use Rattle.std.specs.Char.{digit_value}
 use Rattle.std.proofs.lemmas.Bool.{cases_Bool, cases_eq, cond-true, cond-false, cond_both, both_ways, ne_eqb}
@@ -47,7 +48,8 @@ percent_decode-at_slash (b ∷ high ∷ low ∷ rest) back =
     ⊎_elim
     (λ escape.
     cond-true _ _ _ escape ∙ ap (λ l. (16 * digit_value high + digit_value low) ∷ l) after_escape
-    ∙ ap (λ l. l ++ 47 ∷ percent_decode back) (sym (cond-true (is_escape b high low) ((16 * digit_value high + digit_value low) ∷ percent_decode rest) (b ∷ percent_decode (high ∷ low ∷ rest)) escape)))
+    ∙ ap (λ l. l ++ 47 ∷ percent_decode back) (sym (cond-true (is_escape b high low) ((16 * digit_value high + digit_value low) ∷ percent_decode rest)
+    (b ∷ percent_decode (high ∷ low ∷ rest)) escape)))
     (λ none.
     cond-false _ _ _ none ∙ ap (λ l. b ∷ l) after_byte
     ∙ ap (λ l. l ++ 47 ∷ percent_decode back) (sym (cond-false (is_escape b high low) ((16 * digit_value high + digit_value low) ∷ percent_decode rest) (b ∷ percent_decode (high ∷ low ∷ rest)) none)))
@@ -148,7 +150,8 @@ neither front back none =
     let either = sym (has_dot_part-append (percent_decode front) (percent_decode back)) ∙ ap has_dot_part (sym (percent_decode-at_slash front back)) ∙ none in
     record { front_none = grind (arith, nat_tests); back_none = grind (arith, nat_tests) }
 
-extend : (path part rest : List ℕ) → IsSegmentList File path → All IsNotSlash part → All IsPlainByte part → All IsPlainByte rest → has_dot_part (percent_decode (part ++ rest)) ≡ false → IsSegmentList File (path ++ 47 ∷ (part ++ rest))
+extend : (path part rest : List ℕ) → IsSegmentList File path → All IsNotSlash part → All IsPlainByte part → All IsPlainByte rest
+    → has_dot_part (percent_decode (part ++ rest)) ≡ false → IsSegmentList File (path ++ 47 ∷ (part ++ rest))
 extend path part [] list whole plain _ none =
     rw append-nil (push_valid File path part list (segment_of part whole plain (rw append-nil at none)))
 extend path part (b ∷ rest) list whole plain more none =
@@ -162,7 +165,8 @@ extend path part (b ∷ rest) list whole plain more none =
     (λ other.
     let joined = append_assoc part (b ∷ []) rest in
     subst (λ l. IsSegmentList File (path ++ 47 ∷ l)) joined
-    (extend path (part ++ b ∷ []) rest list (All-push IsNotSlash part b whole other) (All-push IsPlainByte part b plain (All-head IsPlainByte b rest more)) after (ap (λ l. has_dot_part (percent_decode l)) joined ∙ none)))
+    (extend path (part ++ b ∷ []) rest list (All-push IsNotSlash part b whole other) (All-push IsPlainByte part b plain (All-head IsPlainByte b rest more)) after
+    (ap (λ l. has_dot_part (percent_decode l)) joined ∙ none)))
     (cases_eq b 47)
 
 -- a plain text with no dot part goes on a path as segments of it

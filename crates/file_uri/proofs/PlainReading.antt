@@ -1,5 +1,6 @@
 -- A plain URI is read by the URL Standard's parser to what can be read off it.
-use Rattle.std.proofs.Common.{◌≡◌, ◌≢◌, ℕ, ◌+◌, ◌-◌, ◌<◌, true, false, cond, not, ◌&&◌, ◌||◌, ◌==◌, List, [], ◌∷◌, ◌++◌, length, get_or, take, drop, Option, Some, None, Ok, All, is_some, unwrap_or, codes, sym, refl, ap, ◌∙◌, subst, inl, ⊎_elim, arith, append_assoc, append-nil, drop_at, one-add, length-append}
+use Rattle.std.proofs.Common.{◌≡◌, ◌≢◌, ℕ, ◌+◌, ◌-◌, ◌<◌, true, false, cond, not, ◌&&◌, ◌||◌, ◌==◌, List, [], ◌∷◌, ◌++◌, length, get_or, take, drop}
+use Rattle.std.proofs.Common.{Option, Some, None, Ok, All, is_some, unwrap_or, codes, sym, refl, ap, ◌∙◌, subst, inl, ⊎_elim, arith, append_assoc, append-nil, drop_at, one-add, length-append}
 use Rattle.std.specs.List.{starts_with}
 use Rattle.std.specs.Char.{is_ascii_alphabetic}
 use Rattle.std.proofs.lemmas.Bool.{cases_Bool, cond-true, cond-false, and_parts, not-true}
@@ -23,7 +24,7 @@ use Rattle.url.proofs.PathLemmas.{without_last_valid}
 use Rattle.url.proofs.SchemeLemmas.{scheme_type_file}
 use Rattle.url.proofs.Theorems.{parse_url-serialize}
 use Rattle.url.proofs.ValidLemmas.{hierarchical, special_has_authority, base_from_authority}
-use Rattle.file_uri.specs.Reading.{and_then}
+use Rattle.tt_base.specs.Answers.{and_then}
 use Rattle.file_uri.specs.FileUrl.{on_this_host, file_url, local_file, decoded_path}
 use Rattle.file_uri.specs.Base.{BaseView, ends_with_slash, is_directory, IsBase}
 use Rattle.file_uri.specs.PathOf.{path_below, path_of, shared_path}
@@ -140,22 +141,35 @@ directory_url url text valid parsed local directory =
     let parts = directory_parts url directory in
     let list = subst (λ k. IsSegmentList k url.path) kind (hierarchical url valid.path (base_from_authority url authority)).0 in
     let canonical = subst (λ k. IsCanonicalAs k url) kind (parse_url_canonical None text url tt valid parsed) in
-    record { kind = kind; authority = authority; front = parts.front; path = parts.path; list = front_list url parts.front parts.path list; query = parts.query; fragment = parts.fragment; canonical = canonical }
+    record {
+      kind = kind;
+      authority = authority;
+      front = parts.front;
+      path = parts.path;
+      list = front_list url parts.front parts.path list;
+      query = parts.query;
+      fragment = parts.fragment;
+      canonical = canonical;
+    }
 
-canonical-longer : (url : Parts) (front rest : List ℕ) → kind_of url ≡ File → url.path ≡ front ++ 47 ∷ [] → All IsPlainByte rest → IsCanonicalFile url → IsCanonical (with_path url (front ++ 47 ∷ rest))
+canonical-longer : (url : Parts) (front rest : List ℕ) → kind_of url ≡ File → url.path ≡ front ++ 47 ∷ [] → All IsPlainByte rest → IsCanonicalFile url
+    → IsCanonical (with_path url (front ++ 47 ∷ rest))
 canonical-longer url front rest kind path plain canonical =
     let own : WritesDrive (front ++ 47 ∷ []) = subst WritesDrive path canonical.drive in
     subst (λ k. IsCanonicalAs k (with_path url (front ++ 47 ∷ rest))) (sym kind)
     (record { host = canonical.host; drive = drive-extended front rest plain own })
 
 -- the parser reads a plain text behind a directory's URL as a longer path
-parse-longer : (url : Parts) (rest : List ℕ) → IsValid url → IsDirectoryUrl url → is_plain_text rest ≡ true → has_dot_part (percent_decode rest) ≡ false → parse_url None (serialize url ++ rest) ≡ Ok (with_path url (url.path ++ rest))
+parse-longer : (url : Parts) (rest : List ℕ) → IsValid url → IsDirectoryUrl url → is_plain_text rest ≡ true → has_dot_part (percent_decode rest) ≡ false
+    → parse_url None (serialize url ++ rest) ≡ Ok (with_path url (url.path ++ rest))
 parse-longer url rest valid known plain none =
     let bytes = All-plain rest plain in
     let longer : url.path ++ rest ≡ known.front ++ 47 ∷ rest = ap (λ p. p ++ rest) known.path ∙ append_assoc known.front (47 ∷ []) rest in
     let list = IsSegmentList-plain known.front rest known.list bytes none in
     let long : 0 < length (known.front ++ 47 ∷ rest) = simp length-append (omega arith) in
-    let read = parse_url-serialize (with_path url (known.front ++ 47 ∷ rest)) None (valid-with_path url _ valid known.kind list long) (canonical-longer url known.front rest known.kind known.path bytes known.canonical) in
+    let read =
+    parse_url-serialize (with_path url (known.front ++ 47 ∷ rest)) None (valid-with_path url _ valid known.kind list long)
+    (canonical-longer url known.front rest known.kind known.path bytes known.canonical) in
     let read_longer = subst (λ p. parse_url None (serialize (with_path url p)) ≡ Ok (with_path url p)) (sym longer) read in
     rw (serialize-append url rest known.authority known.query known.fragment) at read_longer
 
@@ -170,7 +184,8 @@ below_front front rest =
     let begins = (starts_is Decides-eqb (percent_decode (front ++ 47 ∷ rest)) directory _ refl).1 (percent_decode rest) split in
     cond-true _ _ _ begins ∙ ap shared_path (ap (drop (length directory)) split ∙ drop_at directory (percent_decode rest) _ refl)
 
-pub path_of-plain : (base : BaseView) (rest : List ℕ) → IsBase base → is_plain_text rest ≡ true → has_dot_part (percent_decode rest) ≡ false → path_of base (base.text ++ rest) ≡ shared_path (percent_decode rest)
+pub path_of-plain : (base : BaseView) (rest : List ℕ) → IsBase base → is_plain_text rest ≡ true → has_dot_part (percent_decode rest) ≡ false
+    → path_of base (base.text ++ rest) ≡ shared_path (percent_decode rest)
 path_of-plain base rest known plain none =
     let url = known.url in
     let text : base.text ≡ serialize url = ap (λ b. b.text) known.view in

@@ -1,4 +1,3 @@
-pub mod Reading
 pub mod FileUrl
 pub mod Base
 pub mod PathFaults

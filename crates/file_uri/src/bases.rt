@@ -1,6 +1,7 @@
-ghost use Rattle.std.specs.Prelude.{◌≡◌};
-ghost use Rattle.file_uri.specs.Reading.{Gives};
-ghost use Rattle.file_uri.specs.Base.{IsBase, base_of, ends_with_slash, is_directory};
+ghost use Rattle.std.specs.Prelude.{◌≡◌, ◌≤◌, length, Ok, IfErr};
+ghost use Rattle.tt_base.specs.Answers.{Gives};
+ghost use Rattle.file_uri.specs.FileUrl.{file_url};
+ghost use Rattle.file_uri.specs.Base.{IsBase, base_at, base_of, ends_with_slash, is_directory};
 
 use crate::faults::UriFault;
 use crate::urls::{decoded_path, file_url};
@@ -44,26 +45,38 @@ fn is_directory(url: &Url) -> bool
     url.query().is_none() && url.fragment().is_none() && ends_with_slash(url.path())
 }
 
+/// The base that the URL is, as which the text was read. It is refused before memory is asked for.
+fn base_at(alloc: Global, uri: &str, url: &Url) -> Result<Base, UriFault>
+    requires { file_url uri.now ≡ Ok url.now }
+    ensures gives { Gives UriFault.Memory result (base_at uri.now url.now) }
+    ensures refused { IfErr (base_at uri.now url.now) (λ fault. result ≡ Err fault) }
+{
+    let text = url.as_str();
+    if uri.len() > MAX_BASE_BYTES || text.len() > MAX_BASE_BYTES || !is_directory(url) {
+        return Err(UriFault::NotABase);
+    }
+    let path = decoded_path(alloc, url)?;
+    let text = String::from_str(alloc, text)?;
+    Ok(Base { text, path })
+}
+
 impl Base {
     /// Reads the URI of a directory.
     ///
     /// The causes of a refusal are `NotAUri`, `NotFile`, `HasHost`, `NotABase` and `Memory`.
     pub fn read(alloc: Global, uri: &str) -> Result<Base, UriFault>
-        ensures { Gives result (base_of uri.now) }
+        ensures { Gives UriFault.Memory result (base_of uri.now) }
     {
         let url = file_url(alloc, uri)?;
-        let text = url.as_str();
-        if uri.len() > MAX_BASE_BYTES || text.len() > MAX_BASE_BYTES || !is_directory(&url) {
-            return Err(UriFault::NotABase);
-        }
-        let path = decoded_path(alloc, &url)?;
-        let text = String::from_str(alloc, text)?;
-        Ok(Base { text, path })
+        base_at(alloc, uri, &url)
     }
 
-    /// What holds of every base: it is that of a directory's URL, and its text reads as that URL.
+    /// What holds of every base: it is that of a directory's URL, its text is not longer than the bound, and that text
+    /// is read as the same base again.
     pub fn settled(&self)
-        ensures { IsBase self.now }
+        ensures base { IsBase self.now }
+        ensures short { length self.now.text ≤ MAX_BASE_BYTES }
+        ensures back { base_of self.now.text ≡ Ok self.now }
     {
         let _ = &self.text;
     }

@@ -1,5 +1,5 @@
-ghost use Rattle.std.specs.Prelude.{◌≡◌, true, false, IfOk, MatchOption, Ok};
-ghost use Rattle.file_uri.specs.Reading.{Gives};
+ghost use Rattle.std.specs.Prelude.{◌≡◌, true, false, IfOk, IfErr, MatchOption, Ok};
+ghost use Rattle.tt_base.specs.Answers.{Gives};
 ghost use Rattle.file_uri.specs.PathOf as spec;
 ghost use Rattle.file_uri.specs.UriOf as written;
 ghost use Rattle.file_uri.specs.PlainUri.{is_plain, rest_of};
@@ -24,9 +24,10 @@ const ESCAPED: AsciiSet = ascii_set!(
         .remove(b'/')
 );
 
-/// The shared path that the bytes are.
+/// The shared path that the bytes are. They are refused before memory is asked for.
 fn shared_path(alloc: Global, bytes: &[u8]) -> Result<SharedPath, UriFault>
-    ensures { Gives result (spec.shared_path bytes.now) }
+    ensures gives { Gives UriFault.Memory result (spec.shared_path bytes.now) }
+    ensures refused { IfErr (spec.shared_path bytes.now) (λ fault. result ≡ Err fault) }
 {
     let text = match str::from_utf8(bytes) {
         Ok(text) => text,
@@ -34,6 +35,17 @@ fn shared_path(alloc: Global, bytes: &[u8]) -> Result<SharedPath, UriFault>
     };
     let path = SharedPath::read(alloc, text)?;
     Ok(path)
+}
+
+/// The shared path that the bytes are below a directory. They are refused before memory is asked for.
+fn path_below(alloc: Global, directory: &[u8], bytes: &[u8]) -> Result<SharedPath, UriFault>
+    ensures gives { Gives UriFault.Memory result (spec.path_below directory.now bytes.now) }
+    ensures refused { IfErr (spec.path_below directory.now bytes.now) (λ fault. result ≡ Err fault) }
+{
+    match bytes.strip_prefix(directory) {
+        Some(rest) => shared_path(alloc, rest),
+        None => Err(UriFault::OutsideBase),
+    }
 }
 
 /// What a plain URI stands for behind the base's text, or `None` where the URI is not plain.
@@ -61,7 +73,7 @@ fn plain_path(alloc: Global, base: &Base, uri: &str) -> Result<Option<Vec<u8>>, 
 /// and has no part `.` or `..` once decoded: it is decoded in one pass, without the parser of URLs,
 /// and can only be refused as `NotUtf8`, `BadPath` or `Memory`.
 pub fn path_of(alloc: Global, base: &Base, uri: &str) -> Result<SharedPath, UriFault>
-    ensures { Gives result (spec.path_of base.now uri.now) }
+    ensures { Gives UriFault.Memory result (spec.path_of base.now uri.now) }
 {
     base.settled();
     if let Some(bytes) = plain_path(alloc, base, uri)? {
@@ -69,10 +81,7 @@ pub fn path_of(alloc: Global, base: &Base, uri: &str) -> Result<SharedPath, UriF
     }
     let url = file_url(alloc, uri)?;
     let bytes = decoded_path(alloc, &url)?;
-    match bytes.strip_prefix(base.path()) {
-        Some(rest) => shared_path(alloc, rest),
-        None => Err(UriFault::OutsideBase),
-    }
+    path_below(alloc, base.path(), bytes.as_slice())
 }
 
 /// The URI of a shared path: the text of the base and then the path, in which every byte is

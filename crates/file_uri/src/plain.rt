@@ -1,3 +1,8 @@
+//! Plain URIs: behind the base's text, bytes that stand for themselves and whole escapes.
+//!
+//! In such a text the parser of URLs resolves dot segments and changes nothing else. So where no decoded part is `.` or
+//! `..`, the decoded text is the path that the parser gives; that both agree is the law `plain_reading_agrees`.
+
 ghost use Rattle.std.specs.Prelude.{◌≡◌, ◌+◌, ◌*◌, ◌<◌, true, false, length, MatchOption, IfOk};
 ghost use Rattle.std.specs.Char.{digit_value};
 ghost use Rattle.percent_encoding.specs.Percent.{is_escape, percent_decode};

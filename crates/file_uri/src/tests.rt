@@ -89,6 +89,10 @@ fn reads_bases(rt: HostRuntime) -> Result<(), Fail> {
     }
     let longest = long_base(rt.alloc(), 65_527)?;
     assert_eq!(rt; Base::read(rt.alloc(), longest.as_str()).err(), None);
+    let base = Base::read(rt.alloc(), longest.as_str())?;
+    let uri = written(rt.alloc(), &base, "a b")?;
+    assert_eq!(rt; uri.len(), 65_541);
+    assert_eq!(rt; path_of(rt.alloc(), &base, uri.as_str())?.as_str(), "a b");
     let too_long = long_base(rt.alloc(), 65_528)?;
     assert_eq!(rt;
         Base::read(rt.alloc(), too_long.as_str()).err(),
@@ -113,5 +117,25 @@ fn writes_uris(rt: HostRuntime) -> Result<(), Fail> {
         written(rt.alloc(), &spaced, "a")?.as_str(),
         "file:///my%20work/a"
     );
+    Ok(())
+}
+
+#[test]
+fn faults_have_texts(rt: HostRuntime) -> Result<(), Fail> {
+    for (fault, text) in [
+        (UriFault::NotAUri, "the text is no URI"),
+        (UriFault::NotFile, "the scheme is not `file`"),
+        (UriFault::HasHost, "the URI has a host"),
+        (UriFault::NotABase, "the URI is no base"),
+        (UriFault::OutsideBase, "the path is outside the base"),
+        (UriFault::NotUtf8, "the path is not UTF-8"),
+        (
+            UriFault::BadPath(PathFault::Empty),
+            "the path has an empty part",
+        ),
+        (UriFault::Memory, "out of memory"),
+    ] {
+        assert_eq!(rt; format!(in rt.alloc(); "{fault}")?.as_str(), text);
+    }
     Ok(())
 }

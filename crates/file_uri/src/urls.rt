@@ -1,5 +1,5 @@
 ghost use Rattle.std.specs.Prelude.{◌≡◌, IfOk};
-ghost use Rattle.file_uri.specs.Reading.{Gives};
+ghost use Rattle.tt_base.specs.Answers.{Gives};
 ghost use Rattle.file_uri.specs.FileUrl as spec;
 
 use crate::faults::UriFault;
@@ -7,14 +7,23 @@ use percent_encoding::percent_decode;
 use std::alloc::{AllocError, Global};
 use url::{ParseError, Url};
 
-/// Reads the URL of a file on this host.
-pub(crate) fn file_url(alloc: Global, uri: &str) -> Result<Url, UriFault>
-    ensures { Gives result (spec.file_url uri.now) }
+/// How an error of the parser of URLs counts. A URL of 4 GB or more wants more room than the parser has.
+fn refusal_of(error: ParseError) -> UriFault
+    ensures { result ≡ spec.refusal_of error }
 {
-    let url = match Url::parse(alloc, uri) {
+    match error {
+        ParseError::OutOfMemory | ParseError::Overflow => UriFault::Memory,
+        _ => UriFault::NotAUri,
+    }
+}
+
+/// The parser's answer, if it is the URL of a file on this host. This asks for no memory.
+fn local_answer(answer: Result<Url, ParseError>) -> Result<Url, UriFault>
+    ensures { result ≡ spec.local_answer answer }
+{
+    let url = match answer {
         Ok(url) => url,
-        Err(ParseError::OutOfMemory | ParseError::Overflow) => return Err(UriFault::Memory),
-        Err(_) => return Err(UriFault::NotAUri),
+        Err(error) => return Err(refusal_of(error)),
     };
     if url.scheme() != "file" {
         return Err(UriFault::NotFile);
@@ -23,6 +32,13 @@ pub(crate) fn file_url(alloc: Global, uri: &str) -> Result<Url, UriFault>
         return Err(UriFault::HasHost);
     }
     Ok(url)
+}
+
+/// Reads the URL of a file on this host.
+pub(crate) fn file_url(alloc: Global, uri: &str) -> Result<Url, UriFault>
+    ensures { Gives UriFault.Memory result (spec.file_url uri.now) }
+{
+    local_answer(Url::parse(alloc, uri))
 }
 
 /// The bytes that the URL's path stands for.

@@ -62,7 +62,8 @@ open_or_whole limit Whole = inl refl
 open_or_whole limit Bad = inr (omega arith, λ l. refl)
 
 -- the stage behind a header part that gives one length within the limit
-behind_reached : (limit : ℕ) (l : Lengths) (stage : Stage) (head body : List ℕ) → body ≡ [] → scan_over start head ≡ record { place = Whole; lengths = l } → length head ≤ 8192 → stage_behind limit l ≡ Ok stage → IsReachedAt limit stage head body
+behind_reached : (limit : ℕ) (l : Lengths) (stage : Stage) (head body : List ℕ) → body ≡ [] → scan_over start head ≡ record { place = Whole; lengths = l }
+    → length head ≤ 8192 → stage_behind limit l ≡ Ok stage → IsReachedAt limit stage head body
 behind_reached limit NoneYet stage head body none scan short e = cc
 behind_reached limit Several stage head body none scan short e = cc
 behind_reached limit (One n) stage head body none scan short e = elim (cases_Bool (nat_lt limit n)) [
@@ -70,11 +71,12 @@ behind_reached limit (One n) stage head body none scan short e = elim (cases_Boo
   | inr within ↦
       let is : Ok (Body n) ≡ Ok stage = rw within at e in
       let same : Body n ≡ stage = cc in
-      subst (λ s. IsReachedAt limit s head body) same (scan, short, grind (arith, nat_tests), omega (arith, ap length none))
+      subst (λ s. IsReachedAt limit s head body) same (record { scanned = scan; room = short; within = grind (arith, nat_tests); few = omega (arith, ap length none) })
 ]
 
 -- the stage behind a byte that is taken
-pub stage_reached : (limit : ℕ) (scan : Scan) (stage : Stage) (head body : List ℕ) → body ≡ [] → scan ≡ scan_over start head → length head + missing scan.place ≤ 8192 → stage_at limit scan.place scan.lengths ≡ Ok stage → IsReachedAt limit stage head body
+pub stage_reached : (limit : ℕ) (scan : Scan) (stage : Stage) (head body : List ℕ) → body ≡ [] → scan ≡ scan_over start head
+    → length head + missing scan.place ≤ 8192 → stage_at limit scan.place scan.lengths ≡ Ok stage → IsReachedAt limit stage head body
 stage_reached limit scan stage head body none is few e = elim (open_or_whole limit scan.place) [
   | inl whole ↦
       let behind : stage_behind limit scan.lengths ≡ Ok stage = sym (ap (λ p. stage_at limit p scan.lengths) whole) ∙ e in
@@ -83,7 +85,7 @@ stage_reached limit scan stage head body none is few e = elim (open_or_whole lim
   | inr goes_on ↦
       let stays : Ok (Head scan) ≡ Ok stage = sym (goes_on.1 scan.lengths) ∙ e in
       let same : Head scan ≡ stage = cc in
-      subst (λ s. IsReachedAt limit s head body) same (none, is, goes_on.0, few)
+      subst (λ s. IsReachedAt limit s head body) same (record { no_body = none; scanned = is; goes_on = goes_on.0; room = few })
 ]
 
 -- the scan after one more byte
@@ -93,20 +95,23 @@ scan_of-more scan head b is = ap (λ s. scan_after s b) is ∙ sym (scan_over-ap
 -- a byte that is taken leaves the reader in its place
 pub taken_reached : (limit b : ℕ) (scan : Scan) (old new : FrameBegun) → IsReachedAt limit (Head scan) old.head.items old.body.items → TakesByte limit scan b old new → IsReached limit new
 taken_reached limit b scan old new at t =
-    let is : scan_after scan b ≡ scan_over start new.head.items = scan_of-more scan old.head.items b at.1 ∙ ap (scan_over start) (sym t.head) in
+    let is : scan_after scan b ≡ scan_over start new.head.items = scan_of-more scan old.head.items b at.scanned ∙ ap (scan_over start) (sym t.head) in
     let few : length new.head.items + missing (scan_after scan b).place ≤ 8192 = omega (arith, t.short, ap length t.head, length-append old.head.items (b ∷ [])) in
-    record { at = stage_reached limit (scan_after scan b) new.stage new.head.items new.body.items (t.body ∙ at.0) is few t.stage }
+    record { at = stage_reached limit (scan_after scan b) new.stage new.head.items new.body.items (t.body ∙ at.no_body) is few t.stage }
 
-pub taken_bytes : (limit b : ℕ) (scan : Scan) (old new : FrameBegun) → IsReachedAt limit (Head scan) old.head.items old.body.items → TakesByte limit scan b old new → held_bytes new ≡ held_bytes old ++ (b ∷ [])
+pub taken_bytes : (limit b : ℕ) (scan : Scan) (old new : FrameBegun) → IsReachedAt limit (Head scan) old.head.items old.body.items
+    → TakesByte limit scan b old new → held_bytes new ≡ held_bytes old ++ (b ∷ [])
 taken_bytes limit b scan old new at t =
-    ap₂ (λ xs ys. xs ++ ys) t.head (t.body ∙ at.0) ∙ (append-nil (old.head.items ++ (b ∷ [])) ∙ ap (λ xs. xs ++ (b ∷ [])) (sym (append-nil old.head.items) ∙ ap (λ ys. old.head.items ++ ys) (sym at.0)))
+    ap₂ (λ xs ys. xs ++ ys) t.head (t.body ∙ at.no_body)
+    ∙ (append-nil (old.head.items ++ (b ∷ [])) ∙ ap (λ xs. xs ++ (b ∷ [])) (sym (append-nil old.head.items) ∙ ap (λ ys. old.head.items ++ ys) (sym at.no_body)))
 
 -- a whole header part, and then the rest
 begins : (fields : List Field) (bytes more numbers : List ℕ) → IsHeader fields bytes → numbers ≡ lengths fields → BeginsWithHeader (bytes ++ more) numbers more
 begins fields bytes more numbers h e = record { fields = fields; header = bytes; is_header = h; numbers_are = e; whole = refl }
 
 -- the fault of a whole header part's lengths
-lengths_refused : (limit : ℕ) (l : Lengths) (fault : FrameFault) (fields : List Field) (bytes more : List ℕ) → IsHeader fields bytes → with_all NoneYet (lengths fields) ≡ l → stage_behind limit l ≡ Err (Fault fault) → HasFault limit fault (bytes ++ more)
+lengths_refused : (limit : ℕ) (l : Lengths) (fault : FrameFault) (fields : List Field) (bytes more : List ℕ) → IsHeader fields bytes
+    → with_all NoneYet (lengths fields) ≡ l → stage_behind limit l ≡ Err (Fault fault) → HasFault limit fault (bytes ++ more)
 lengths_refused limit NoneYet fault fields bytes more h e r =
     let same : NoLength ≡ fault = cc in
     subst (λ f. HasFault limit f (bytes ++ more)) same (more, begins fields bytes more [] h (sym (numbers-none (lengths fields) e)))
@@ -114,17 +119,19 @@ lengths_refused limit Several fault fields bytes more h e r =
     let same : TwoLengths ≡ fault = cc in
     let several = numbers-several (lengths fields) e in
     subst (λ f. HasFault limit f (bytes ++ more)) same
-    (several.0, several.1, several.2, more, begins fields bytes more (several.0 ∷ several.1 ∷ several.2) h (sym several.3))
+    (record { first = several.0; second = several.1; others = several.2; rest = more; begins = begins fields bytes more (several.0 ∷ several.1 ∷ several.2) h (sym several.3) })
 lengths_refused limit (One n) fault fields bytes more h e r = elim (cases_Bool (nat_lt limit n)) [
   | inl long ↦
       let is : Err (Fault (TooLong n)) ≡ Err (Fault fault) = rw long at r in
       let same : TooLong n ≡ fault = cc in
-      subst (λ f. HasFault limit f (bytes ++ more)) same (more, begins fields bytes more (n ∷ []) h (sym (numbers-one (lengths fields) n e)), grind (arith, nat_tests))
+      let one = begins fields bytes more (n ∷ []) h (sym (numbers-one (lengths fields) n e)) in
+      subst (λ f. HasFault limit f (bytes ++ more)) same (record { rest = more; begins = one; above = grind (arith, nat_tests) })
   | inr within ↦ let never : Ok (Body n) ≡ Err (Fault fault) = rw within at r in cc
 ]
 
 -- a header part that is whole has this fault
-pub whole_refused : (limit : ℕ) (scan : Scan) (fault : FrameFault) (head more : List ℕ) → scan ≡ scan_over start head → length head + missing scan.place ≤ 8192 → stage_at limit scan.place scan.lengths ≡ Err (Fault fault) → HasFault limit fault (head ++ more)
+pub whole_refused : (limit : ℕ) (scan : Scan) (fault : FrameFault) (head more : List ℕ) → scan ≡ scan_over start head → length head + missing scan.place ≤ 8192
+    → stage_at limit scan.place scan.lengths ≡ Err (Fault fault) → HasFault limit fault (head ++ more)
 whole_refused limit scan fault head more is few e = elim (open_or_whole limit scan.place) [
   | inr goes_on ↦ let never : Ok (Head scan) ≡ Err (Fault fault) = sym (goes_on.1 scan.lengths) ∙ e in cc
   | inl whole ↦
@@ -135,7 +142,8 @@ whole_refused limit scan fault head more is few e = elim (open_or_whole limit sc
 ]
 
 -- no header part begins with one byte more
-pub bad_byte : (head more : List ℕ) (b : ℕ) → 0 < missing (scan_over start head).place → length head + missing (scan_over start head).place ≤ 8192 → 8192 < length head + 1 + missing (scan_over start (head ++ (b ∷ []))).place → IsBadAt (length head) (head ++ (b ∷ more))
+pub bad_byte : (head more : List ℕ) (b : ℕ) → 0 < missing (scan_over start head).place → length head + missing (scan_over start head).place ≤ 8192
+    → 8192 < length head + 1 + missing (scan_over start (head ++ (b ∷ []))).place → IsBadAt (length head) (head ++ (b ∷ more))
 bad_byte head more b some few bad = record {
   here = omega (arith, length-append head (b ∷ more));
   begun = subst IsHeaderBegun (sym (take-append_seam head (b ∷ more))) (begun_from head some few);
@@ -145,46 +153,49 @@ bad_byte head more b some few bad = record {
       omega (arith, viable, bad, length-append head (b ∷ []));
 }
 
-refused_at : (limit b : ℕ) (scan : Scan) (old : FrameBegun) (fault : FrameFault) (more : List ℕ) → IsReachedAt limit (Head scan) old.head.items old.body.items → RefusesByte limit scan b old fault → HasFault limit fault (old.head.items ++ (b ∷ more))
+refused_at : (limit b : ℕ) (scan : Scan) (old : FrameBegun) (fault : FrameFault) (more : List ℕ) → IsReachedAt limit (Head scan) old.head.items old.body.items
+    → RefusesByte limit scan b old fault → HasFault limit fault (old.head.items ++ (b ∷ more))
 refused_at limit b scan old fault more at (inl bad) =
     let head = old.head.items in
-    let some : 0 < missing (scan_over start head).place = subst (λ (s : Scan). 0 < missing s.place) at.1 at.2 in
-    let few : length head + missing (scan_over start head).place ≤ 8192 = subst (λ (s : Scan). length head + missing s.place ≤ 8192) at.1 at.3 in
-    let long : 8192 < length head + 1 + missing (scan_over start (head ++ (b ∷ []))).place = subst (λ (s : Scan). 8192 < length head + 1 + missing s.place) (scan_of-more scan head b at.1) bad.0 in
+    let some : 0 < missing (scan_over start head).place = subst (λ (s : Scan). 0 < missing s.place) at.scanned at.goes_on in
+    let few : length head + missing (scan_over start head).place ≤ 8192 = subst (λ (s : Scan). length head + missing s.place ≤ 8192) at.scanned at.room in
+    let long : 8192 < length head + 1 + missing (scan_over start (head ++ (b ∷ []))).place =
+    subst (λ (s : Scan). 8192 < length head + 1 + missing s.place) (scan_of-more scan head b at.scanned) bad.0 in
     subst (λ f. HasFault limit f (head ++ (b ∷ more))) (sym bad.1) (bad_byte head more b some few long)
 refused_at limit b scan old fault more at (inr whole) =
     let head = old.head.items in
     let few : length (head ++ (b ∷ [])) + missing (scan_after scan b).place ≤ 8192 = omega (arith, whole.0, length-append head (b ∷ [])) in
-    subst (HasFault limit fault) (append_assoc head (b ∷ []) more) (whole_refused limit (scan_after scan b) fault (head ++ (b ∷ [])) more (scan_of-more scan head b at.1) few whole.1)
+    subst (HasFault limit fault) (append_assoc head (b ∷ []) more) (whole_refused limit (scan_after scan b) fault (head ++ (b ∷ [])) more (scan_of-more scan head b at.scanned) few whole.1)
 
 -- a byte that is refused has the fault in its place, whatever follows
-pub refused : (limit b : ℕ) (scan : Scan) (old : FrameBegun) (fault : FrameFault) (more : List ℕ) → IsReachedAt limit (Head scan) old.head.items old.body.items → RefusesByte limit scan b old fault → HasFault limit fault (held_bytes old ++ (b ∷ more))
+pub refused : (limit b : ℕ) (scan : Scan) (old : FrameBegun) (fault : FrameFault) (more : List ℕ) → IsReachedAt limit (Head scan) old.head.items old.body.items
+    → RefusesByte limit scan b old fault → HasFault limit fault (held_bytes old ++ (b ∷ more))
 refused limit b scan old fault more at r =
-    let same : old.head.items ≡ held_bytes old = sym (append-nil old.head.items) ∙ ap (λ ys. old.head.items ++ ys) (sym at.0) in
+    let same : old.head.items ≡ held_bytes old = sym (append-nil old.head.items) ∙ ap (λ ys. old.head.items ++ ys) (sym at.no_body) in
     subst (λ xs. HasFault limit fault (xs ++ (b ∷ more))) same (refused_at limit b scan old fault more at r)
 
 -- the header part before a body
 body_begins : (limit n : ℕ) (head body : List ℕ) → IsReachedAt limit (Body n) head body → BeginsWithHeader (head ++ body) (n ∷ []) body
 body_begins limit n head body at =
-    let ends : (scan_over start head).place ≡ Whole = ap (λ (s : Scan). s.place) at.0 in
-    let accepted = header_accepted head ends at.1 in
-    begins accepted.0 head body (n ∷ []) accepted.1 (sym (numbers-one (lengths accepted.0) n (sym accepted.2 ∙ ap (λ (s : Scan). s.lengths) at.0)))
+    let ends : (scan_over start head).place ≡ Whole = ap (λ (s : Scan). s.place) at.scanned in
+    let accepted = header_accepted head ends at.room in
+    begins accepted.0 head body (n ∷ []) accepted.1 (sym (numbers-one (lengths accepted.0) n (sym accepted.2 ∙ ap (λ (s : Scan). s.lengths) at.scanned)))
 
 -- a body that is whole ends its frame
 pub body_whole : (limit n : ℕ) (head body : List ℕ) → IsReachedAt limit (Body n) head body → length body ≡ n → IsFrame limit body (head ++ body)
 body_whole limit n head body at e = record {
   begins = subst (λ m. BeginsWithHeader (head ++ body) (m ∷ []) body) (sym e) (body_begins limit n head body at);
-  within = omega (arith, at.2, e);
+  within = omega (arith, at.within, e);
 }
 
 -- what is held is a frame begun
 pub begun_at : (limit : ℕ) (stage : Stage) (head body : List ℕ) → IsReachedAt limit stage head body → IsShort stage body → IsFrameBegun limit (head ++ body)
 begun_at limit (Head scan) head body at short =
-    let some : 0 < missing (scan_over start head).place = subst (λ (s : Scan). 0 < missing s.place) at.1 at.2 in
-    let few : length head + missing (scan_over start head).place ≤ 8192 = subst (λ (s : Scan). length head + missing s.place ≤ 8192) at.1 at.3 in
-    let same : head ≡ head ++ body = sym (append-nil head) ∙ ap (λ ys. head ++ ys) (sym at.0) in
+    let some : 0 < missing (scan_over start head).place = subst (λ (s : Scan). 0 < missing s.place) at.scanned at.goes_on in
+    let few : length head + missing (scan_over start head).place ≤ 8192 = subst (λ (s : Scan). length head + missing s.place ≤ 8192) at.scanned at.room in
+    let same : head ≡ head ++ body = sym (append-nil head) ∙ ap (λ ys. head ++ ys) (sym at.no_body) in
     inl (subst IsHeaderBegun same (begun_from head some few))
-begun_at limit (Body n) head body at short = inr (record { number = n; body = body; begins = body_begins limit n head body at; within = at.2; shorter = short })
+begun_at limit (Body n) head body at short = inr (record { number = n; body = body; begins = body_begins limit n head body at; within = at.within; shorter = short })
 
 pub held_begun : (limit : ℕ) (begun : FrameBegun) → IsHeld limit begun → IsFrameBegun limit (held_bytes begun)
 held_begun limit begun h = begun_at limit begun.stage begun.head.items begun.body.items h.at h.short
@@ -192,3 +203,6 @@ held_begun limit begun h = begun_at limit begun.stage begun.head.items begun.bod
 -- at the beginning of a frame
 pub nothing_begun : (limit : ℕ) → IsFrameBegun limit []
 nothing_begun limit = inl (begun_from [] (omega arith) (omega arith))
+
+pub start_reached : (limit : ℕ) → IsReachedAt limit (Head start) [] []
+start_reached limit = record { no_body = refl; scanned = refl; goes_on = omega arith; room = omega arith }

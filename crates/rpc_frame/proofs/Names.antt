@@ -28,7 +28,8 @@ name_ended matched h =
     drop_all matched length_name end
 
 -- the next byte of `Content-Length` has come
-pub name_goes_on : (matched b : ℕ) (name : List ℕ) → (nat_lt matched 14 && (to_ascii_lowercase b == get_or length_name matched 0)) ≡ true → is_name_rest matched (b ∷ name) ≡ is_name_rest (matched + 1) name
+pub name_goes_on : (matched b : ℕ) (name : List ℕ) → (nat_lt matched 14 && (to_ascii_lowercase b == get_or length_name matched 0)) ≡ true
+    → is_name_rest matched (b ∷ name) ≡ is_name_rest (matched + 1) name
 name_goes_on matched b name h = elim (cases_Bool (nat_lt matched 14)) [
   | inl below ↦
       let same : (to_ascii_lowercase b == get_or length_name matched 0) ≡ true = rw below at h in
@@ -54,7 +55,8 @@ pub name_is_whole : (matched : ℕ) → nat_lt matched 14 ≡ false → is_name_
 name_is_whole matched h = rw (name_ended matched h) refl
 
 -- one more byte of a name
-NameText-prepend : (test later : List ℕ → Bool) (b : ℕ) → is_name_byte b ≡ true → ((name : List ℕ) → test (b ∷ name) ≡ later name) → (text others numbers : List ℕ) → NameText later text others numbers → NameText test (b ∷ text) others numbers
+NameText-prepend : (test later : List ℕ → Bool) (b : ℕ) → is_name_byte b ≡ true → ((name : List ℕ) → test (b ∷ name) ≡ later name)
+    → (text others numbers : List ℕ) → NameText later text others numbers → NameText test (b ∷ text) others numbers
 NameText-prepend test later b named e text others numbers t = record {
   name = b ∷ t.name;
   value = t.value;
@@ -101,7 +103,15 @@ value_bytes-digits (b ∷ bs) h = elim (cases_Bool (is_ascii_digit b)) [
 
 pub length_text_bytes : (value : List ℕ) → IsLengthText value → list_all is_value_byte value ≡ true
 length_text_bytes value t =
-    rw (t.whole, list_all-append is_value_byte t.before (t.digits ++ t.after), list_all-append is_value_byte t.digits t.after, value_bytes-blanks t.before t.blank_before, value_bytes-digits t.digits t.decimal, value_bytes-blanks t.after t.blank_after) refl
+    rw (
+      t.whole,
+      list_all-append is_value_byte t.before (t.digits ++ t.after),
+      list_all-append is_value_byte t.digits t.after,
+      value_bytes-blanks t.before
+          t.blank_before,
+      value_bytes-digits t.digits t.decimal,
+      value_bytes-blanks t.after t.blank_after,
+    ) refl
 
 -- the lengths of one field more
 pub lengths-cons : (field : Field) (fields : List Field) → lengths (field ∷ fields) ≡ numbers_with (gives_length field) field.value (lengths fields)
@@ -187,7 +197,8 @@ field_then : (name value rest : List ℕ) → (name ++ (58 ∷ value)) ++ (13 �
 field_then name value rest = simp append_assoc
 
 -- a line and then lines: one field more
-pub line_more : (b : ℕ) (bytes numbers : List ℕ) → is_name_byte b ≡ true → IsLineRest (NameText (is_name_rest 0)) (b ∷ bytes) numbers → (lines : IsLines (b ∷ bytes) numbers) × (0 < length lines.fields)
+pub line_more : (b : ℕ) (bytes numbers : List ℕ) → is_name_byte b ≡ true → IsLineRest (NameText (is_name_rest 0)) (b ∷ bytes) numbers
+    → (lines : IsLines (b ∷ bytes) numbers) × (0 < length lines.fields)
 line_more b bytes numbers named r =
     let t = r.fits in
     let field : Field = record { name = t.name; value = t.value } in
@@ -200,7 +211,8 @@ line_more b bytes numbers named r =
           value = t.value_bytes;
           length_text = t.length_text;
         }) r.lines.each;
-        whole = line ∙ (field_then t.name t.value r.rest ∙ (ap (λ rest. field_bytes field ++ rest) r.lines.whole ∙ sym (append_assoc (field_bytes field) (flat_map field_bytes r.lines.fields) (13 ∷ 10 ∷ []))));
+        whole = line
+            ∙ (field_then t.name t.value r.rest ∙ (ap (λ rest. field_bytes field ++ rest) r.lines.whole ∙ sym (append_assoc (field_bytes field) (flat_map field_bytes r.lines.fields) (13 ∷ 10 ∷ []))));
         given = t.given ∙ (ap (λ others. numbers_with (is_name_rest 0 t.name) t.value others) r.lines.given ∙ sym (lengths-cons field r.lines.fields));
       },
       omega arith,

@@ -58,7 +58,8 @@ begun_or_whole s ns r b w =
 -- a bad byte ends what is begun
 begun_or_bad : (place : ℕ) (s : List ℕ) → IsHeaderBegun s → IsBadAt place s → ⊥
 begun_or_bad place s b d =
-    let parts : s ++ b.more ≡ take (place + 1) s ++ (drop (place + 1) s ++ b.more) = ap (λ xs. xs ++ b.more) (sym (take-append-drop (place + 1) s)) ∙ append_assoc (take (place + 1) s) (drop (place + 1) s) b.more in
+    let parts : s ++ b.more ≡ take (place + 1) s ++ (drop (place + 1) s ++ b.more) = ap (λ xs. xs ++ b.more) (sym (take-append-drop (place + 1) s))
+    ∙ append_assoc (take (place + 1) s) (drop (place + 1) s) b.more in
     d.bad b.fields (drop (place + 1) s ++ b.more) (subst (IsHeader b.fields) parts b.header)
 
 -- a whole header part has no bad byte, and ends before one
@@ -123,8 +124,13 @@ shape_of limit s (Begun bytes) (e, inl header) = inl (record { begun = header; i
 shape_of limit s (Begun bytes) (e, inr body) = inr (inr (record { numbers = body.number ∷ []; rest = body.body; begins = body.begins; is = inr (body.within, body.shorter, ap Begun (sym e)) }))
 shape_of limit s (Broken (BadHeader place)) h = inr (inl (record { place = place; bad = h; is = refl }))
 shape_of limit s (Broken NoLength) h = inr (inr (record { numbers = []; rest = h.0; begins = h.1; is = refl }))
-shape_of limit s (Broken TwoLengths) h = inr (inr (record { numbers = h.0 ∷ h.1 ∷ h.2; rest = h.3; begins = h.4; is = subst (λ (l : Lengths). EndsBehind limit l h.3 s (Broken TwoLengths)) (sym (several_stay h.2)) refl }))
-shape_of limit s (Broken (TooLong number)) h = inr (inr (record { numbers = number ∷ []; rest = h.0; begins = h.1; is = inl (h.2, refl) }))
+shape_of limit s (Broken TwoLengths) h = inr (inr (record {
+  numbers = h.first ∷ h.second ∷ h.others;
+  rest = h.rest;
+  begins = h.begins;
+  is = subst (λ (l : Lengths). EndsBehind limit l h.rest s (Broken TwoLengths)) (sym (several_stay h.others)) refl;
+}))
+shape_of limit s (Broken (TooLong number)) h = inr (inr (record { numbers = number ∷ []; rest = h.rest; begins = h.begins; is = inl (h.above, refl) }))
 
 -- one end behind a header part
 one_behind : (limit : ℕ) (l : Lengths) (rest s : List ℕ) (end other : StreamEnd) → EndsBehind limit l rest s end → EndsBehind limit l rest s other → end ≡ other
@@ -173,7 +179,8 @@ frame_or_shape limit body frame rest end f (inl h) = begun_or_whole (frame ++ re
 frame_or_shape limit body frame rest end f (inr (inl h)) = bad_or_whole h.place (frame ++ rest) (length body ∷ []) (body ++ rest) h.bad (frame_begins limit body frame rest f)
 frame_or_shape limit body frame rest end f (inr (inr h)) =
     let same = same_header (frame ++ rest) h.numbers (length body ∷ []) h.rest (body ++ rest) h.begins (frame_begins limit body frame rest f) in
-    behind_or_whole limit (length body) h.rest (frame ++ rest) end f.within (omega (arith, ap length same.0, length-append body rest)) (subst (λ (l : Lengths). EndsBehind limit l h.rest (frame ++ rest) end) same.1 h.is)
+    behind_or_whole limit (length body) h.rest (frame ++ rest) end f.within (omega (arith, ap length same.0, length-append body rest))
+    (subst (λ (l : Lengths). EndsBehind limit l h.rest (frame ++ rest) end) same.1 h.is)
 
 -- where a whole frame stands the stream does not end
 frame_or_end : (limit : ℕ) (body frame rest : List ℕ) (end : StreamEnd) → IsFrame limit body frame → EndsAs limit end (frame ++ rest) → ⊥
@@ -191,14 +198,18 @@ no_more a c (x ∷ m) e h = absurd (omega (arith, h, ap length e, length-append 
 -- one frame
 one_frame : (limit : ℕ) (body other frame last rest more : List ℕ) → IsFrame limit body frame → IsFrame limit other last → frame ++ rest ≡ last ++ more → (body ≡ other) × (rest ≡ more)
 one_frame limit body other frame last rest more f g e =
-    let same = same_header (frame ++ rest) (length body ∷ []) (length other ∷ []) (body ++ rest) (other ++ more) (frame_begins limit body frame rest f) (subst (λ (xs : List ℕ). BeginsWithHeader xs (length other ∷ []) (other ++ more)) (sym e) (frame_begins limit other last more g)) in
+    let same =
+    same_header (frame ++ rest) (length body ∷ []) (length other ∷ []) (body ++ rest) (other ++ more) (frame_begins limit body frame rest f)
+    (subst (λ (xs : List ℕ). BeginsWithHeader xs (length other ∷ []) (other ++ more)) (sym e) (frame_begins limit other last more g)) in
     let lengths_same : length body ≡ length other = one_number (length body) (length other) same.1 in
     let front = front_of body rest other more same.0 (omega (arith, lengths_same)) in
     let none : front.0 ≡ [] = no_more body other front.0 front.1 lengths_same in
     (sym (front.1 ∙ (ap (λ m. body ++ m) none ∙ append-nil body)), front.2 ∙ ap (λ m. m ++ more) none)
 
 -- one reading
-one_reading_of : (limit : ℕ) (bodies frames others lasts : List (List ℕ)) (rest more : List ℕ) (end other : StreamEnd) → AllZip (IsFrame limit) bodies frames → AllZip (IsFrame limit) others lasts → concat frames ++ rest ≡ concat lasts ++ more → EndsAs limit end rest → EndsAs limit other more → (bodies ≡ others) × (end ≡ other)
+one_reading_of : (limit : ℕ) (bodies frames others lasts : List (List ℕ)) (rest more : List ℕ) (end other : StreamEnd) → AllZip (IsFrame limit) bodies frames
+    → AllZip (IsFrame limit) others lasts → concat frames ++ rest ≡ concat lasts ++ more → EndsAs limit end rest → EndsAs limit other more
+    → (bodies ≡ others) × (end ≡ other)
 one_reading_of limit [] [] [] [] rest more end other h k e x y = (refl, one_end limit more end other (subst (EndsAs limit end) e x) y)
 one_reading_of limit [] [] (b ∷ others) (f ∷ lasts) rest more end other h k e x y =
     absurd (frame_or_end limit b f (concat lasts ++ more) end k.0 (subst (EndsAs limit end) (e ∙ append_assoc f (concat lasts) more) x))
@@ -215,6 +226,7 @@ one_reading_of limit [] [] (c ∷ others) [] rest more end other h k e x y = abs
 one_reading_of limit (b ∷ bodies) (f ∷ frames) [] (g ∷ lasts) rest more end other h k e x y = absurd k
 one_reading_of limit (b ∷ bodies) (f ∷ frames) (c ∷ others) [] rest more end other h k e x y = absurd k
 
-pub one_reading : (limit : ℕ) (stream : List ℕ) (bodies others : List (List ℕ)) (end other : StreamEnd) → Reads limit stream bodies end → Reads limit stream others other → (bodies ≡ others) × (end ≡ other)
+pub one_reading : (limit : ℕ) (stream : List ℕ) (bodies others : List (List ℕ)) (end other : StreamEnd) → Reads limit stream bodies end
+    → Reads limit stream others other → (bodies ≡ others) × (end ≡ other)
 one_reading limit stream bodies others end other r q =
     one_reading_of limit bodies r.frames others q.frames r.rest q.rest end other r.each q.each (sym r.whole ∙ q.whole) r.ends q.ends

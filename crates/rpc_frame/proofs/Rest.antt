@@ -32,8 +32,8 @@ pub record IsLineRest (P : List ℕ → List ℕ → List ℕ → Type 0) (bytes
   pub fits : P text others numbers
 
 -- the number of a value's digits
-abbrev pub number_of : List ℕ → ℕ
-number_of value = min (digits_value 10 (filter is_ascii_digit value)) (2 ^ 64 - 1)
+abbrev pub digits_number : List ℕ → ℕ
+digits_number value = min (digits_value 10 (filter is_ascii_digit value)) (2 ^ 64 - 1)
 
 -- the number with more digits
 abbrev pub with_digits : ℕ → List ℕ → ℕ
@@ -42,7 +42,7 @@ with_digits n (b ∷ digits) = with_digits (with_digit n b) digits
 
 -- the lengths that a field's value gives, before the others
 abbrev pub numbers_with : Bool → List ℕ → List ℕ → List ℕ
-numbers_with true value others = number_of value ∷ others
+numbers_with true value others = digits_number value ∷ others
 numbers_with false value others = others
 
 -- the lengths with more
@@ -56,7 +56,7 @@ OtherText text others numbers = IsTrue (list_all is_value_byte text) × (numbers
 
 -- a value that gives a length
 abbrev pub LengthText : List ℕ → List ℕ → List ℕ → Type 0
-LengthText text others numbers = IsLengthText text × (numbers ≡ number_of text ∷ others)
+LengthText text others numbers = IsLengthText text × (numbers ≡ digits_number text ∷ others)
 
 -- the rest of it behind digits whose number is n
 pub record DigitsText (n : ℕ) (text others numbers : List ℕ) : Type 0 where
@@ -104,7 +104,8 @@ Rest Whole bytes numbers = (bytes ≡ []) × (numbers ≡ [])
 Rest Bad bytes numbers = ⊥
 
 -- one more byte in front
-pub prepend : (P Q : List ℕ → List ℕ → List ℕ → Type 0) (b : ℕ) (bytes numbers : List ℕ) → ((text others : List ℕ) → P text others numbers → Q (b ∷ text) others numbers) → IsLineRest P bytes numbers → IsLineRest Q (b ∷ bytes) numbers
+pub prepend : (P Q : List ℕ → List ℕ → List ℕ → Type 0) (b : ℕ) (bytes numbers : List ℕ)
+    → ((text others : List ℕ) → P text others numbers → Q (b ∷ text) others numbers) → IsLineRest P bytes numbers → IsLineRest Q (b ∷ bytes) numbers
 prepend P Q b bytes numbers f r = record {
   text = b ∷ r.text;
   rest = r.rest;
@@ -155,8 +156,8 @@ with_digits-is n (b ∷ bs) h = elim (cases_Bool (is_ascii_digit b)) [
   | inr other ↦ let never : false ≡ true = rw other at h in cc
 ]
 
-pub number_of-digits : (digits blanks : List ℕ) → list_all is_ascii_digit digits ≡ true → list_all is_blank blanks ≡ true → number_of (digits ++ blanks) ≡ with_digits 0 digits
-number_of-digits digits blanks h k =
+pub digits_number-digits : (digits blanks : List ℕ) → list_all is_ascii_digit digits ≡ true → list_all is_blank blanks ≡ true → digits_number (digits ++ blanks) ≡ with_digits 0 digits
+digits_number-digits digits blanks h k =
     ap (λ ds. min (digits_value 10 ds) (2 ^ 64 - 1)) (filter-digits digits blanks h k) ∙ sym (with_digits-is 0 digits h)
 
 -- before the digits
@@ -191,14 +192,15 @@ LengthBefore-back l b bytes numbers r = elim (cases_Bool (is_blank b)) [
             decimal = rw digit t.decimal;
             blank_after = t.blank;
           },
-          t.given ∙ ap (λ n. n ∷ others) (sym (ap (λ xs. number_of (b ∷ xs)) t.whole ∙ number_of-digits (b ∷ t.digits) t.after (rw digit t.decimal) t.blank)),
+          t.given ∙ ap (λ n. n ∷ others) (sym (ap (λ xs. digits_number (b ∷ xs)) t.whole ∙ digits_number-digits (b ∷ t.digits) t.after (rw digit t.decimal) t.blank)),
         )) rest
     | inr none ↦ absurd (rw (other, none) at r)
   ]
 ]
 
 -- among the digits
-pub LengthDigits-back : (n : ℕ) (l : Lengths) (b : ℕ) (bytes numbers : List ℕ) → Rest (place_after (LengthDigits n) b) bytes numbers → (given : List ℕ) × Rest (LengthDigits n) (b ∷ bytes) given × (with_all (lengths_after (LengthDigits n) l b) numbers ≡ with_all l given)
+pub LengthDigits-back : (n : ℕ) (l : Lengths) (b : ℕ) (bytes numbers : List ℕ) → Rest (place_after (LengthDigits n) b) bytes numbers
+    → (given : List ℕ) × Rest (LengthDigits n) (b ∷ bytes) given × (with_all (lengths_after (LengthDigits n) l b) numbers ≡ with_all l given)
 LengthDigits-back n l b bytes numbers r = elim (cases_Bool (is_ascii_digit b)) [
   | inl digit ↦
       let rest : IsLineRest (DigitsText (with_digit n b)) bytes numbers = rw digit at r in (
@@ -240,7 +242,8 @@ LengthDigits-back n l b bytes numbers r = elim (cases_Bool (is_ascii_digit b)) [
 ]
 
 -- behind the digits
-pub LengthAfter-back : (n : ℕ) (l : Lengths) (b : ℕ) (bytes numbers : List ℕ) → Rest (place_after (LengthAfter n) b) bytes numbers → (given : List ℕ) × Rest (LengthAfter n) (b ∷ bytes) given × (with_all (lengths_after (LengthAfter n) l b) numbers ≡ with_all l given)
+pub LengthAfter-back : (n : ℕ) (l : Lengths) (b : ℕ) (bytes numbers : List ℕ) → Rest (place_after (LengthAfter n) b) bytes numbers
+    → (given : List ℕ) × Rest (LengthAfter n) (b ∷ bytes) given × (with_all (lengths_after (LengthAfter n) l b) numbers ≡ with_all l given)
 LengthAfter-back n l b bytes numbers r = elim (cases_Bool (is_blank b)) [
   | inl blank ↦
       let rest : IsLineRest (BlankText n) bytes numbers = rw blank at r in (

@@ -14,7 +14,8 @@ use Rattle.rpc_frame.proofs.Rest.{IsLines, with_all, Rest, LengthBefore-back, Le
 use Rattle.rpc_frame.proofs.Names.{FirstLine-back, NextLine-back, LengthName-back, OtherName-back}
 
 -- one byte was read
-pub Rest-back : (p : Place) (l : Lengths) (b : ℕ) (bytes numbers : List ℕ) → Rest (place_after p b) bytes numbers → (given : List ℕ) × Rest p (b ∷ bytes) given × (with_all (lengths_after p l b) numbers ≡ with_all l given)
+pub Rest-back : (p : Place) (l : Lengths) (b : ℕ) (bytes numbers : List ℕ) → Rest (place_after p b) bytes numbers
+    → (given : List ℕ) × Rest p (b ∷ bytes) given × (with_all (lengths_after p l b) numbers ≡ with_all l given)
 Rest-back FirstLine l b bytes numbers r = (numbers, FirstLine-back b bytes numbers r, refl)
 Rest-back NextLine l b bytes numbers r = (numbers, NextLine-back b bytes numbers r, refl)
 Rest-back (LengthName matched) l b bytes numbers r = (numbers, LengthName-back matched b bytes numbers r, refl)
@@ -47,7 +48,8 @@ scan_over-sound (b ∷ bytes) s e =
     (now.0, now.1, later.2 ∙ now.2)
 
 -- a scan from the beginning accepts header parts alone
-pub header_accepted : (bytes : List ℕ) → (scan_over start bytes).place ≡ Whole → length bytes ≤ 8192 → (fields : List Field) × IsHeader fields bytes × ((scan_over start bytes).lengths ≡ with_all NoneYet (lengths fields))
+pub header_accepted : (bytes : List ℕ) → (scan_over start bytes).place ≡ Whole → length bytes ≤ 8192
+    → (fields : List Field) × IsHeader fields bytes × ((scan_over start bytes).lengths ≡ with_all NoneYet (lengths fields))
 header_accepted bytes e short =
     let read = scan_over-sound bytes start e in
     let lines = read.1.0 in

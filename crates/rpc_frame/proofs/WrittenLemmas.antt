@@ -12,9 +12,9 @@ use Rattle.std.proofs.lemmas.List.Elements.{All-nil, All-cons}
 use Rattle.rpc_frame.specs.Header.{Field, IsField, IsLengthText, IsHeader, header_bytes}
 use Rattle.rpc_frame.specs.Stream.{IsFrame}
 use Rattle.rpc_frame.specs.Written.{frame_bytes}
-use Rattle.rpc_frame.proofs.Rest.{number_of, with_digits-is}
+use Rattle.rpc_frame.proofs.Rest.{digits_number, with_digits-is}
 use Rattle.rpc_frame.proofs.Names.{length_text_bytes}
-use Rattle.rpc_frame.proofs.Complete.{number_of-parts}
+use Rattle.rpc_frame.proofs.Complete.{digits_number-parts}
 
 -- what counts as a digit is one
 digit_byte : (b : ℕ) → digit_value b < 10 → is_ascii_digit b ≡ true
@@ -44,12 +44,12 @@ written_value n h =
     }
 
 -- its number
-written_number : (n : ℕ) → n < 2 ^ 64 → number_of (32 ∷ decimal n) ≡ n
+written_number : (n : ℕ) → n < 2 ^ 64 → digits_number (32 ∷ decimal n) ≡ n
 unfolding written_value
 written_number n h =
     let numeral = decimal_is_IsNumeral n h in
     let cut : min (digits_value 10 (decimal n)) (2 ^ 64 - 1) ≡ n = omega (arith, numeral.1, h) in
-    number_of-parts (32 ∷ decimal n) (written_value n h) ∙ (with_digits-is 0 (decimal n) (digit_bytes (decimal n) numeral.0.1) ∙ cut)
+    digits_number-parts (32 ∷ decimal n) (written_value n h) ∙ (with_digits-is 0 (decimal n) (digit_bytes (decimal n) numeral.0.1) ∙ cut)
 
 abbrev pub written_header : ℕ → List ℕ
 written_header n = codes "Content-Length: " ++ (decimal n ++ (13 ∷ 10 ∷ 13 ∷ 10 ∷ []))

@@ -4,6 +4,7 @@ use Rattle.std.specs.Char.{is_ascii_digit}
 use Rattle.std.specs.List.{list_all, flat_map}
 use Rattle.std.specs.Str.{bytes_eq, str_to_ascii_lowercase}
 use Rattle.std.specs.Str.Parse.{digits_value}
+use Rattle.rpc_frame.specs.declared.headers.TheConstants.{HEADER_LIMIT}
 
 -- a field: its name, and its value as it stands between the colon and the line's end
 pub record Field : Type 0 where
@@ -61,7 +62,7 @@ pub record IsHeader (fields : List Field) (bytes : List ℕ) : Type 0 where
   pub some_field : 0 < length fields
   pub each : All IsField fields
   pub whole : bytes ≡ header_bytes fields
-  pub short : length bytes ≤ 8192
+  pub short : length bytes ≤ HEADER_LIMIT
 
 -- the numbers of the fields that give a length, in order
 abbrev pub lengths : List Field → List ℕ

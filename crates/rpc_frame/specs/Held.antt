@@ -8,6 +8,7 @@ use Rattle.rpc_frame.specs.declared.begun.Stop.{Stop}
 use Rattle.rpc_frame.specs.declared.begun.Stop.TheVariants.{Fault}
 use Rattle.rpc_frame.specs.declared.faults.FrameFault.{FrameFault}
 use Rattle.rpc_frame.specs.declared.faults.FrameFault.TheVariants.{BadHeader, NoLength, TwoLengths, TooLong}
+use Rattle.rpc_frame.specs.declared.headers.TheConstants.{HEADER_LIMIT}
 use Rattle.rpc_frame.specs.declared.headers.Place.{Place}
 use Rattle.rpc_frame.specs.declared.headers.Place.TheVariants.{Whole}
 use Rattle.rpc_frame.specs.declared.headers.Lengths.{Lengths}
@@ -18,10 +19,24 @@ use Rattle.rpc_frame.specs.declared.headers.Scan.{Scan}
 abbrev pub held_bytes : FrameBegun → List ℕ
 held_bytes begun = begun.head.items ++ begun.body.items
 
--- the stage is that of these bytes of a header part and of a body, which may be whole
+-- the scan is that of these bytes of a header part, which goes on and has room to end
+pub record IsHeadAt (scan : Scan) (head body : List ℕ) : Type 0 where
+  pub no_body : body ≡ []
+  pub scanned : scan ≡ scan_over start head
+  pub goes_on : 0 < missing scan.place
+  pub room : length head + missing scan.place ≤ HEADER_LIMIT
+
+-- a whole header part that gives this length, and these bytes of the body, which may be whole
+pub record IsBodyAt (limit number : ℕ) (head body : List ℕ) : Type 0 where
+  pub scanned : scan_over start head ≡ record { place = Whole; lengths = One number }
+  pub room : length head ≤ HEADER_LIMIT
+  pub within : number ≤ limit
+  pub few : length body ≤ number
+
+-- the stage is that of these bytes of a header part and of a body
 abbrev pub IsReachedAt : ℕ → Stage → List ℕ → List ℕ → Type 0
-IsReachedAt limit (Head scan) head body = (body ≡ []) × (scan ≡ scan_over start head) × (0 < missing scan.place) × (length head + missing scan.place ≤ 8192)
-IsReachedAt limit (Body number) head body = (scan_over start head ≡ record { place = Whole; lengths = One number }) × (length head ≤ 8192) × (number ≤ limit) × (length body ≤ number)
+IsReachedAt limit (Head scan) head body = IsHeadAt scan head body
+IsReachedAt limit (Body number) head body = IsBodyAt limit number head body
 
 -- the body is not whole
 abbrev pub IsShort : Stage → List ℕ → Type 0
@@ -53,10 +68,10 @@ pub record TakesByte (limit : ℕ) (scan : Scan) (byte : ℕ) (old new : FrameBe
   pub head : new.head.items ≡ old.head.items ++ (byte ∷ [])
   pub body : new.body.items ≡ old.body.items
   pub stage : stage_at limit (scan_after scan byte).place (scan_after scan byte).lengths ≡ Ok new.stage
-  pub short : length old.head.items + 1 + missing (scan_after scan byte).place ≤ 8192
+  pub short : length old.head.items + 1 + missing (scan_after scan byte).place ≤ HEADER_LIMIT
 
 -- the byte, or the header part that it ends, has this fault
 abbrev pub RefusesByte : ℕ → Scan → ℕ → FrameBegun → FrameFault → Type 0
 RefusesByte limit scan byte old fault =
-    ((8192 < length old.head.items + 1 + missing (scan_after scan byte).place) × (fault ≡ BadHeader (length old.head.items)))
-    ⊎ ((length old.head.items + 1 + missing (scan_after scan byte).place ≤ 8192) × (stage_at limit (scan_after scan byte).place (scan_after scan byte).lengths ≡ Err (Fault fault)))
+    ((HEADER_LIMIT < length old.head.items + 1 + missing (scan_after scan byte).place) × (fault ≡ BadHeader (length old.head.items)))
+    ⊎ ((length old.head.items + 1 + missing (scan_after scan byte).place ≤ HEADER_LIMIT) × (stage_at limit (scan_after scan byte).place (scan_after scan byte).lengths ≡ Err (Fault fault)))

@@ -22,13 +22,13 @@ is_live standing.Spent = false
 
 -- what contracts see
 abbrev pub view_of : Inside → ReaderView
-view_of r = record { limit = r.limit; kept = kept_of r.standing r.begun; live = is_live r.standing; done = r.done.items }
+view_of r = record { limit = r.limit; kept = kept_of r.standing r.begun; held = held_bytes r.begun; live = is_live r.standing; done = r.done.items }
 
--- while it reads, the place in the frame begun is right, and no body waits
+-- while it reads, the place in the frame begun is right, and no body waits; from then on no part of a frame is held
 abbrev pub InOrder : ℕ → Standing → FrameBegun → List (List ℕ) → Type 0
 InOrder limit standing.Reading begun done = IsHeld limit begun × (done ≡ [])
-InOrder limit (standing.Broken fault) begun done = Unit {0}
-InOrder limit standing.Spent begun done = Unit {0}
+InOrder limit (standing.Broken fault) begun done = held_bytes begun ≡ []
+InOrder limit standing.Spent begun done = (held_bytes begun ≡ []) × (done ≡ [])
 
 -- the same of the fields
 pub record IsInOrder (r : Inside) : Type 0 where

@@ -2,10 +2,12 @@
 use Rattle.std.specs.Prelude.{ℕ, Bool, List, ◌++◌}
 use Rattle.rpc_frame.specs.Stream.{StreamEnd, Begun, Broken, Reads}
 
--- its limit, what it keeps of its stream, whether it is not spent, and the bodies that `take_done` would give
+-- its limit, what it keeps of its stream, the bytes that it holds in memory of a frame begun, whether it is not spent,
+-- and the bodies that `take_done` would give
 pub record ReaderView : Type 0 where
   pub limit : ℕ
   pub kept : StreamEnd
+  pub held : List ℕ
   pub live : Bool
   pub done : List (List ℕ)
 

@@ -2,6 +2,7 @@
 use Rattle.std.specs.Prelude.{ℕ, ◌+◌, ◌-◌, ◌*◌, ◌^◌, ◌==◌, ◌&&◌, nat_lt, List, [], ◌∷◌, min, slice_index, codes, if◌then◌else◌}
 use Rattle.std.specs.Char.{is_ascii_digit, to_ascii_lowercase}
 use Rattle.rpc_frame.specs.Header.{is_name_byte, is_blank}
+use Rattle.rpc_frame.specs.declared.headers.TheConstants.{HEADER_LIMIT}
 use Rattle.rpc_frame.specs.declared.headers.Place.{Place}
 use Rattle.rpc_frame.specs.declared.headers.Place.TheVariants.{FirstLine, NextLine, LengthName, OtherName, OtherValue, LengthBefore, LengthDigits, LengthAfter, FieldEnd, PartEnd, Whole, Bad}
 use Rattle.rpc_frame.specs.declared.headers.Lengths.{Lengths}
@@ -75,4 +76,4 @@ missing (LengthAfter n) = 4
 missing FieldEnd = 3
 missing PartEnd = 1
 missing Whole = 0
-missing Bad = 8193
+missing Bad = HEADER_LIMIT + 1

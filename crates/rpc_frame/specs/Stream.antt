@@ -43,12 +43,26 @@ pub record IsBodyBegun (limit : ℕ) (bytes : List ℕ) : Type 0 where
 abbrev pub IsFrameBegun : ℕ → List ℕ → Type 0
 IsFrameBegun limit bytes = IsHeaderBegun bytes ⊎ IsBodyBegun limit bytes
 
+-- a whole header part that gives two lengths or more
+pub record HasLengths (bytes : List ℕ) : Type 0 where
+  pub first : ℕ
+  pub second : ℕ
+  pub others : List ℕ
+  pub rest : List ℕ
+  pub begins : BeginsWithHeader bytes (first ∷ second ∷ others) rest
+
+-- a whole header part that gives this length, which is above the limit
+pub record IsTooLong (limit number : ℕ) (bytes : List ℕ) : Type 0 where
+  pub rest : List ℕ
+  pub begins : BeginsWithHeader bytes (number ∷ []) rest
+  pub above : limit < number
+
 -- in place of a frame these bytes have this fault
 abbrev pub HasFault : ℕ → FrameFault → List ℕ → Type 0
 HasFault limit (BadHeader place) bytes = IsBadAt place bytes
 HasFault limit NoLength bytes = (rest : List ℕ) × BeginsWithHeader bytes [] rest
-HasFault limit TwoLengths bytes = (first second : ℕ) × (others rest : List ℕ) × BeginsWithHeader bytes (first ∷ second ∷ others) rest
-HasFault limit (TooLong number) bytes = (rest : List ℕ) × BeginsWithHeader bytes (number ∷ []) rest × (limit < number)
+HasFault limit TwoLengths bytes = HasLengths bytes
+HasFault limit (TooLong number) bytes = IsTooLong limit number bytes
 
 -- what comes after the whole frames of a stream: the bytes of a frame begun, or the first fault
 pub data StreamEnd : Type 0 where
@@ -67,3 +81,9 @@ pub record Reads (limit : ℕ) (stream : List ℕ) (bodies : List (List ℕ)) (e
   pub each : AllZip (IsFrame limit) bodies frames
   pub whole : stream ≡ concat frames ++ rest
   pub ends : EndsAs limit end rest
+
+-- a reading of the stream
+pub record IsRead (limit : ℕ) (stream : List ℕ) : Type 0 where
+  pub bodies : List (List ℕ)
+  pub end : StreamEnd
+  pub reads : Reads limit stream bodies end

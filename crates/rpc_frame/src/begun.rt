@@ -1,16 +1,18 @@
+//! The bytes of a frame begun, and the stage that they have reached.
+//!
+//! What is held is never a whole frame (`IsHeld`): a body that comes whole is handed out in the turn that ends it. So
+//! what was read is always the bodies so far and then what is held, and a byte either keeps that or is the first fault.
+
 ghost use Rattle.std.specs.Prelude.{◌≡◌, ◌≤◌, ◌<◌, ℕ, List, [], ◌++◌, length, take, vec_len, IfOk, OnOk, IfErr, IfNone, IfSome};
 ghost use Rattle.rpc_frame.specs.Held.{held_bytes, IsHeld, IsReached, stage_at, stage_behind, TakesByte, RefusesByte};
 ghost use Rattle.rpc_frame.specs.Stream.{IsFrame, HasFault, Begun, Broken, Reads};
 ghost use Rattle.rpc_frame.specs.declared.begun.Stop.TheVariants.{Memory};
 
 use crate::faults::FrameFault;
-use crate::headers::{Lengths, Place, Scan};
+use crate::headers::{HEADER_LIMIT, Lengths, Place, Scan};
 use std::alloc::{AllocError, AllocFailed, Global};
 use std::mem;
 use tt_base::Blob;
-
-/// The greatest number of bytes that a header part may have.
-const HEADER_LIMIT: usize = 8192;
 
 /// Why bytes are not taken.
 #[derive(Clone, Copy, Debug)]
@@ -66,10 +68,13 @@ impl FrameBegun {
 
     /// Takes the next byte of the header part, and counts it.
     fn take_head_byte(&mut self, limit: u64, scan: Scan, byte: u8) -> Result<usize, Stop>
-        requires room { vec_len self.old.head ≤ 8192 }
+        requires room { vec_len self.old.head ≤ HEADER_LIMIT }
         ensures count { IfOk result (λ count. count ≡ 1) }
         ensures ok { OnOk result (TakesByte limit scan byte self.old self.new) }
         ensures fault { (fault : FrameFault) → result ≡ Err (Stop.Fault fault) → RefusesByte limit scan byte self.old fault }
+
+        // A byte is judged before memory is asked for it, so its fault is the answer.
+        ensures refused { (fault : FrameFault) → RefusesByte limit scan byte self.old fault → result ≡ Err (Stop.Fault fault) }
     {
         let next = scan.after(byte);
         let place = self.head.len();

@@ -1,5 +1,5 @@
 ghost use Rattle.std.specs.Prelude.{◌≡◌};
-ghost use Rattle.rpc_frame.specs.Faults.{end_of};
+ghost use Rattle.rpc_frame.specs.Faults.{answer_of};
 
 use thiserror::Error;
 
@@ -45,7 +45,7 @@ pub enum FrameEnd {
 }
 
 impl From<FrameFault> for FrameEnd {
-    ghost from_gives = { λ fault end. end ≡ end_of fault };
+    ghost from_gives = { λ fault end. end ≡ answer_of fault };
 
     fn from(fault: FrameFault) -> FrameEnd {
         match fault {

@@ -1,6 +1,14 @@
+//! A header part is read by a small machine: where the next byte stands, and which lengths were given so far.
+//!
+//! A byte is bad exactly where no header part goes on behind it. So each place knows how many bytes are `missing` to a
+//! whole header part at the least, and the bound on its length is judged at the first byte that leaves too little room.
+
 ghost use Rattle.std.specs.Prelude.{◌≡◌, ◌≤◌};
 ghost use Rattle.rpc_frame.specs.Header.{is_name_byte, is_blank};
 ghost use Rattle.rpc_frame.specs.Scanning.{name_place, with_digit, place_after, with_length, lengths_after, scan_after, start, missing};
+
+/// The most bytes that a header part may have.
+pub const HEADER_LIMIT: usize = 8192;
 
 /// The name of the field that gives a body's length, in lower case.
 const LENGTH_NAME: &[u8; 14] = b"content-length";
@@ -84,7 +92,7 @@ impl Scan {
             Place::FieldEnd => 3,
             Place::PartEnd => 1,
             Place::Whole => 0,
-            Place::Bad => 8193,
+            Place::Bad => HEADER_LIMIT + 1,
         }
     }
 }

@@ -1,13 +1,18 @@
 //! What holds of every stream of frames. Each law is a function that does nothing; its contract is the law.
-ghost use Rattle.std.specs.Prelude.{◌≡◌, ◌≤◌, ◌<◌, ◌^◌, ℕ, List, ◌∷◌, ◌++◌, length};
-ghost use Rattle.rpc_frame.specs.Stream.{StreamEnd, Begun, Broken, Reads};
+ghost use Rattle.std.specs.Prelude.{◌≡◌, ◌≤◌, ◌<◌, ◌^◌, ℕ, List, [], ◌∷◌, ◌++◌, length};
+ghost use Rattle.rpc_frame.specs.Stream.{StreamEnd, Begun, Broken, Reads, IsRead};
 ghost use Rattle.rpc_frame.specs.ReaderView.{ReadsOn};
 ghost use Rattle.rpc_frame.specs.Written.{frame_bytes};
 ghost use Rattle.rpc_frame.specs.declared.faults.FrameFault.{FrameFault as Fault};
 
 /// Every stream has a reading: the bodies of its whole frames, and then a frame begun or the first fault.
 pub fn every_stream()
-    ensures { (limit : ℕ) (stream : List ℕ) → (bodies : List (List ℕ)) × (end : StreamEnd) × Reads limit stream bodies end }
+    ensures { (limit : ℕ) (stream : List ℕ) → IsRead limit stream }
+{}
+
+/// The empty stream is read as no body, and then as nothing begun.
+pub fn empty_stream()
+    ensures { (limit : ℕ) → Reads limit [] [] (Begun []) }
 {}
 
 /// A stream has one reading: these bodies and this end, and no others.

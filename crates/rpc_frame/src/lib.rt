@@ -14,6 +14,7 @@ mod readers;
 mod written;
 
 pub use faults::{FrameEnd, FrameFault};
+pub use headers::HEADER_LIMIT;
 pub use pieces::{StreamRead, read_pieces};
 pub use readers::FrameReader;
 pub use written::write_frame;

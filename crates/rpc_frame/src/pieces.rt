@@ -1,8 +1,8 @@
-ghost use Rattle.std.specs.Prelude.{◌≡◌, ℕ, List, Some, IfOk};
+ghost use Rattle.std.specs.Prelude.{◌≡◌, ℕ, List, IfOk, IsOk};
 ghost use Rattle.std.specs.List.{concat};
 ghost use Rattle.rpc_frame.specs.Stream.{StreamEnd, Reads};
-ghost use Rattle.rpc_frame.specs.Pieces.{EndsWith};
-ghost use Rattle.rpc_frame.specs.Faults.{end_of};
+ghost use Rattle.rpc_frame.specs.Pieces.{EndsWith, HasRead, EndedWith};
+ghost use Rattle.rpc_frame.specs.Faults.{answer_of};
 
 use crate::faults::{FrameEnd, FrameFault};
 use crate::readers::FrameReader;
@@ -20,7 +20,7 @@ pub struct StreamRead {
 ///
 /// However the stream is cut, the bodies and the fault are those of the pieces' bytes together.
 pub fn read_pieces(alloc: Global, limit: u64, pieces: &[Blob]) -> Result<StreamRead, AllocError>
-    ensures read { IfOk result (λ read. (end : StreamEnd) × Reads limit (concat pieces.now) read.bodies end × EndsWith read.fault end) }
+    ensures read { IfOk result (λ read. HasRead limit (concat pieces.now) read.bodies read.fault) }
     ensures only { IfOk result (λ read. (bodies : List (List ℕ)) (end : StreamEnd)
         → Reads limit (concat pieces.now) bodies end → (bodies ≡ read.bodies) × EndsWith read.fault end) }
 {
@@ -29,7 +29,7 @@ pub fn read_pieces(alloc: Global, limit: u64, pieces: &[Blob]) -> Result<StreamR
 
 /// Feeds each piece to a reader, up to the first fault.
 fn read_each(alloc: Global, limit: u64, pieces: &[Blob]) -> Result<StreamRead, AllocError>
-    ensures { IfOk result (λ read. (end : StreamEnd) × Reads limit (concat pieces.now) read.bodies end × EndsWith read.fault end) }
+    ensures { IfOk result (λ read. HasRead limit (concat pieces.now) read.bodies read.fault) }
 {
     let mut reader = FrameReader::new(alloc, limit)?;
     let mut bodies = Vec::new(alloc);
@@ -50,7 +50,10 @@ fn read_each(alloc: Global, limit: u64, pieces: &[Blob]) -> Result<StreamRead, A
 
 /// The bodies before the fault that ended the reading, if it was one.
 fn ended(bodies: Vec<Blob>, end: FrameEnd) -> Result<StreamRead, AllocError>
-    ensures { IfOk result (λ read. (fault : FrameFault) × (read.fault ≡ Some fault) × (end ≡ end_of fault) × (read.bodies ≡ bodies.items)) }
+    ensures fault { IfOk result (λ read. EndedWith read.fault end × (read.bodies ≡ bodies.items)) }
+
+    // No memory is asked for here, so a fault is told.
+    ensures told { (fault : FrameFault) → end ≡ answer_of fault → IsOk result }
 {
     let fault = match end {
         FrameEnd::BadHeader(place) => FrameFault::BadHeader(place),

@@ -1,6 +1,6 @@
 ghost use Rattle.std.specs.Prelude.{◌≡◌, ◌↔◌, ◌⊎◌, ℕ, List, false, [], IsTrue, IfOk, OnOk};
-ghost use Rattle.rpc_frame.specs.Faults.{end_of};
-ghost use Rattle.rpc_frame.specs.Stream.{Begun, Broken};
+ghost use Rattle.rpc_frame.specs.Faults.{answer_of};
+ghost use Rattle.rpc_frame.specs.Stream.{IsFrameBegun, Begun, Broken};
 ghost use Rattle.rpc_frame.specs.ReaderView.{ReadsOn, IsUnbroken};
 
 use crate::begun::{FrameBegun, Stop};
@@ -20,9 +20,10 @@ enum Standing {
 
 /// Reads a stream of frames that comes in pieces.
 ///
-/// Contracts see four things of it: its limit in bytes, which a body may not pass; what it keeps of its stream, which
-/// is the bytes of the frame begun or the first fault in their place; the bodies that `take_done` would give; and
-/// whether it is live. Memory that ran out in `feed` leaves it spent: such a reader is only dropped.
+/// Contracts see five things of it: its limit in bytes, which a body may not pass; what it keeps of its stream, which
+/// is the bytes of the frame begun or the first fault in their place; the bytes that it holds in memory; the bodies
+/// that `take_done` would give; and whether it is live. Memory that ran out in `feed` leaves it spent: such a reader
+/// is only dropped.
 #[derive(Debug, Drop)]
 pub struct FrameReader {
     limit: u64,
@@ -74,14 +75,14 @@ impl FrameReader {
         ensures live { OnOk result (IsTrue self.new.live) }
 
         // Or they are the bodies that wait now, and then the first fault.
-        ensures fault { (fault : FrameFault) → result ≡ Err (end_of fault)
+        ensures fault { (fault : FrameFault) → result ≡ Err (answer_of fault)
             → ReadsOn self.old.limit self.old.kept piece.now self.new.done (Broken fault) }
-        ensures broken { (fault : FrameFault) → result ≡ Err (end_of fault) → self.new.kept ≡ Broken fault }
+        ensures broken { (fault : FrameFault) → result ≡ Err (answer_of fault) → self.new.kept ≡ Broken fault }
 
         // Where the stream has a fault, no other answer comes while memory lasts.
         ensures exact { (bodies : List (List ℕ)) (fault : FrameFault)
             → ReadsOn self.old.limit self.old.kept piece.now bodies (Broken fault)
-            → (result ≡ Err (end_of fault)) ⊎ (result ≡ Err FrameEnd.Memory) }
+            → (result ≡ Err (answer_of fault)) ⊎ (result ≡ Err FrameEnd.Memory) }
 
         // Behind a fault, and only there, the reader stays closed.
         ensures closed { (fault : FrameFault) → (result ≡ Err (FrameEnd.Closed fault)) ↔ (self.old.kept ≡ Broken fault) }
@@ -102,11 +103,23 @@ impl FrameReader {
                 Err(FrameEnd::from(fault))
             }
             Err(Stop::Memory) => {
+                self.begun = FrameBegun::new(alloc);
                 self.done = Vec::new(alloc);
                 self.standing = Standing::Spent;
                 Err(FrameEnd::Memory)
             }
         }
+    }
+
+    /// What holds of every reader: what it keeps is a frame begun, whose bytes it holds while it is live, and behind a
+    /// fault, or without memory, it holds no part of a frame.
+    pub fn settled(&self)
+        ensures begun { (bytes : List ℕ) → self.now.kept ≡ Begun bytes → IsFrameBegun self.now.limit bytes }
+        ensures held { (bytes : List ℕ) → IsTrue self.now.live → self.now.kept ≡ Begun bytes → self.now.held ≡ bytes }
+        ensures closed { (fault : FrameFault) → self.now.kept ≡ Broken fault → self.now.held ≡ [] }
+        ensures spent { self.now.live ≡ false → self.now.held ≡ [] }
+    {
+        let _ = &self.done;
     }
 
     /// The bodies that ended before the fault in the same piece; a second call gives none.

@@ -88,9 +88,9 @@ fn frames_are_read(rt: HostRuntime) -> Result<(), Fail> {
     check(
         &rt,
         1,
-        b"Content-Length: 117\r\nContent-Type: application/vscode-jsonrpc; charset=utf-8\r\n\r\n{\"jsonrpc\":\"2.0\",\"id\":1,\"method\":\"open\",\"params\":{\"uri\":\"file:///work/src/main.rs\",\"content\":\"fn main() {\\r\\n}\\r\\n\"}}",
+        b"Content-Length: 70\r\nContent-Type: application/vscode-jsonrpc; charset=utf-8\r\n\r\n{\"jsonrpc\":\"2.0\",\"id\":1,\"method\":\"open\",\"params\":{\"content\":\"a\\r\\nb\"}}",
         &[
-            b"{\"jsonrpc\":\"2.0\",\"id\":1,\"method\":\"open\",\"params\":{\"uri\":\"file:///work/src/main.rs\",\"content\":\"fn main() {\\r\\n}\\r\\n\"}}",
+            b"{\"jsonrpc\":\"2.0\",\"id\":1,\"method\":\"open\",\"params\":{\"content\":\"a\\r\\nb\"}}",
         ],
         None,
     )?;
@@ -208,5 +208,51 @@ fn a_written_frame_is_read(rt: HostRuntime) -> Result<(), Fail> {
     assert_eq!(rt; frame.len(), 97);
     assert!(rt; frame.as_slice().starts_with(b"Content-Length: 75\r\n\r\n{"));
     check(&rt, 1, frame.as_slice(), &[body], None)?;
+    Ok(())
+}
+
+#[test]
+fn many_long_frames_are_read(rt: HostRuntime) -> Result<(), Fail> {
+    let alloc = rt.alloc();
+    let body = vec![in alloc; b'{'; 5_000]?;
+    let frame = write_frame(alloc, body.as_slice())?;
+    assert_eq!(rt; frame.len(), 5_024);
+    for count in [3, 100] {
+        let mut stream = Vec::new(alloc);
+        for _ in 0..count {
+            stream.extend_from_slice(frame.as_slice())?;
+        }
+        let pieces = in_two(alloc, stream.as_slice(), 7_000)?;
+        let read = read_pieces(alloc, LIMIT, pieces.as_slice())?;
+        assert!(rt; read.fault.is_none());
+        assert_eq!(rt; read.bodies.len(), count);
+        for read_body in read.bodies.as_slice() {
+            assert!(rt; read_body.as_slice() == body.as_slice());
+        }
+    }
+    Ok(())
+}
+
+#[test]
+fn faults_have_texts(rt: HostRuntime) -> Result<(), Fail> {
+    for (fault, text) in [
+        (FrameFault::BadHeader(16), "bad header at byte 16"),
+        (FrameFault::NoLength, "no Content-Length"),
+        (FrameFault::TwoLengths, "more than one Content-Length"),
+        (FrameFault::TooLong(9), "body of 9 bytes is too long"),
+    ] {
+        assert_eq!(rt; format!(in rt.alloc(); "{fault}")?.as_str(), text);
+        let end = FrameEnd::from(fault);
+        assert_eq!(rt; format!(in rt.alloc(); "{end}")?.as_str(), text);
+    }
+    for (end, text) in [
+        (
+            FrameEnd::Closed(FrameFault::NoLength),
+            "closed after a fault: no Content-Length",
+        ),
+        (FrameEnd::Memory, "out of memory"),
+    ] {
+        assert_eq!(rt; format!(in rt.alloc(); "{end}")?.as_str(), text);
+    }
     Ok(())
 }

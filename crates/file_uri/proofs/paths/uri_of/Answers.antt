@@ -20,5 +20,6 @@ returns-clause-text c =
 pub returns-clause-back : goal.returns-clause-back
 returns-clause-back c =
     let text = subst IsUtf8 c.as_str.ensures.text c.as_str.utf8 in
-    let back = path_of-uri_of c.args.base.now c.args.path.now c.settled.ensures text c.as_str.ensures.path in
-    IfOk-weaker c.from_str-2.result (λ uri. uri ≡ uri_of c.args.base.now c.args.path.now) (λ uri. path_of c.args.base.now uri ≡ Ok c.args.path.now) (λ uri same. ap (path_of c.args.base.now) same ∙ back) (returns-clause-text c)
+    let back = path_of-uri_of c.args.base.now c.args.path.now c.settled.ensures.base text c.as_str.ensures.path in
+    IfOk-weaker c.from_str-2.result (λ uri. uri ≡ uri_of c.args.base.now c.args.path.now) (λ uri. path_of c.args.base.now uri ≡ Ok c.args.path.now) (λ uri same. ap (path_of c.args.base.now) same
+    ∙ back) (returns-clause-text c)

@@ -8,4 +8,5 @@ use Rattle.file_uri.proofs.plain.has_dot_part.Goals as goal
 pub returns : goal.returns
 returns c =
     let split = c.split.ensures in
-    any_from_yields_List is_dot_part _ _ c.any.result c.any.ensures.ran (YieldsList-from_slice_split _ (λ b. b == 47) c.args.path.now split.rest split.done split.closure (λ x b q k. search (rules, tests))) (λ x b q k. search (rules, tests))
+    any_from_yields_List is_dot_part _ _ c.any.result c.any.ensures.ran
+    (YieldsList-from_slice_split _ (λ b. b == 47) c.args.path.now split.rest split.done split.closure (λ x b q k. search (rules, tests))) (λ x b q k. search (rules, tests))

@@ -40,7 +40,8 @@ loop-piece-preserved c =
       live = c.in-Ok.ensures.live;
       limit = c.in-Ok.ensures.limit ∙ inv.limit;
       unbroken = c.in-Ok.ensures.unbroken;
-      read = piece_read c.args.limit c.loop-piece.reader.limit pieces index piece c.loop-piece.bodies.items c.in-Ok.more c.append.new.self.items c.loop-piece.reader.kept c.feed.new.self.kept c.loop-piece-test.true is inv.limit joined inv.read c.in-Ok.ensures.read;
+      read = piece_read c.args.limit c.loop-piece.reader.limit pieces index piece c.loop-piece.bodies.items c.in-Ok.more c.append.new.self.items c.loop-piece.reader.kept
+          c.feed.new.self.kept c.loop-piece-test.true is inv.limit joined inv.read c.in-Ok.ensures.read;
     }
 
 -- the call ended by
@@ -56,10 +57,12 @@ returns-in-Err c =
     let is = item_at pieces index c.piece-item.result piece c.piece-item.is c.as_slice.ensures in
     let joined = c.in_ok-append-in-Err.ensures.items ∙ ap (λ (more : List (List ℕ)). c.loop-piece.bodies.items ++ more) (c.into_vec-in-Err.ensures ∙ c.take_done.ensures.bodies) in
     IfOk-weaker c.ended.result _ _ (λ read h.
-    let met = c.in-Err.ensures.fault h.0 (ap ended_by h.2) in
-    let front = piece_read c.args.limit c.loop-piece.reader.limit pieces index piece c.loop-piece.bodies.items c.feed.new.self.done c.append-in-Err.new.self.items c.loop-piece.reader.kept (Broken h.0) c.loop-piece-test.true is inv.limit joined inv.read met in
-    let whole = fault_of_all c.args.limit pieces (index + 1) c.append-in-Err.new.self.items h.0 front in (
-      Broken h.0,
-      subst (λ (bodies : List (List ℕ)). Reads c.args.limit (concat pieces) bodies (Broken h.0)) (sym h.3) whole,
-      subst (λ (fault : Option FrameFault). EndsWith fault (Broken h.0)) (sym h.1) refl,
-    )) c.ended.ensures
+    let met = c.in-Err.ensures.fault h.0.met (ap ended_by h.0.answered) in
+    let front =
+    piece_read c.args.limit c.loop-piece.reader.limit pieces index piece c.loop-piece.bodies.items c.feed.new.self.done c.append-in-Err.new.self.items
+    c.loop-piece.reader.kept (Broken h.0.met) c.loop-piece-test.true is inv.limit joined inv.read met in
+    let whole = fault_of_all c.args.limit pieces (index + 1) c.append-in-Err.new.self.items h.0.met front in record {
+      end = Broken h.0.met;
+      reads = subst (λ (bodies : List (List ℕ)). Reads c.args.limit (concat pieces) bodies (Broken h.0.met)) (sym h.1) whole;
+      ends = subst (λ (fault : Option FrameFault). EndsWith fault (Broken h.0.met)) (sym h.0.told) refl;
+    }) c.ended.ensures.fault

@@ -9,5 +9,5 @@ use Rattle.rpc_frame.proofs.pieces.read_pieces.Goals as goal
 pub returns-clause-only : goal.returns-clause-only
 returns-clause-only c =
     IfOk-weaker c.read_each.result _ _ (λ read h. λ bodies end other.
-    let same = one_reading c.args.limit (concat c.args.pieces.now) bodies read.bodies end h.0 other h.1 in
-    (same.0, subst (EndsWith read.fault) (sym same.1) h.2)) c.read_each.ensures
+    let same = one_reading c.args.limit (concat c.args.pieces.now) bodies read.bodies end h.end other h.reads in
+    (same.0, subst (EndsWith read.fault) (sym same.1) h.ends)) c.read_each.ensures

@@ -57,7 +57,8 @@ loop-at-preserved c =
     let front = take c.loop-at.at piece in
     let read = c.in_ok-at.ensures.read (kept ++ front) c.loop-at.invariant.read in
     let stream : (kept ++ front) ++ take count (take (length piece - c.loop-at.at) (drop c.loop-at.at piece)) ≡ kept ++ take (c.loop-at.at + count) piece =
-    ap (λ xs. (kept ++ front) ++ take count xs) (slice_rest c.loop-at.at piece) ∙ (append_assoc kept front (take count (drop c.loop-at.at piece)) ∙ ap (λ xs. kept ++ xs) (sym (take-add c.loop-at.at count piece))) in
+    ap (λ xs. (kept ++ front) ++ take count xs) (slice_rest c.loop-at.at piece)
+    ∙ (append_assoc kept front (take count (drop c.loop-at.at piece)) ∙ ap (λ xs. kept ++ xs) (sym (take-add c.loop-at.at count piece))) in
     record {
       within = omega (arith, c.in_ok-at.ensures.count.1, c.loop-at.invariant.within, length-drop c.loop-at.at piece);
       held = c.in_ok-at.ensures.held;

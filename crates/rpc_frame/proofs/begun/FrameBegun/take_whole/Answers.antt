@@ -15,6 +15,7 @@ returns-in-Body-clause-some c =
     let begun = c.args.self.now in
     let body : c.from_vec.result ≡ begun.body.items = c.from_vec.ensures ∙ ap (λ (b : FrameBegun). b.body.items) c.replace-begun.ensures.value in
     let at = subst (λ (stage : Stage). IsReachedAt c.args.limit stage begun.head.items begun.body.items) c.in-Body.is c.requires.reached.at in (
-      subst (λ (xs : List ℕ). IsFrame c.args.limit xs (held_bytes begun)) (sym body) (body_whole c.args.limit c.in-Body.number begun.head.items begun.body.items at (sym begun.body.ok.0 ∙ (sym c.len.ensures ∙ c.if-len-number.true))),
+      subst (λ (xs : List ℕ). IsFrame c.args.limit xs (held_bytes begun)) (sym body) (body_whole c.args.limit c.in-Body.number begun.head.items begun.body.items at (sym begun.body.ok.0
+          ∙ (sym c.len.ensures ∙ c.if-len-number.true))),
       ap held_bytes c.replace-begun.ensures.after ∙ c.new.ensures.bytes,
     )

@@ -1,6 +1,6 @@
 -- A stream has one reading, so that a fault that it has is the one that is met.
 use Rattle.std.proofs.Common.{◌≡◌, ℕ, true, List, ◌++◌, Result, Err, sym, ◌∙◌, ap, subst, inl}
-use Rattle.rpc_frame.specs.Faults.{end_of}
+use Rattle.rpc_frame.specs.Faults.{answer_of}
 use Rattle.rpc_frame.specs.Stream.{Broken}
 use Rattle.rpc_frame.specs.ReaderView.{ReaderView, ReadsOn}
 use Rattle.rpc_frame.specs.Held.{held_bytes}
@@ -33,4 +33,4 @@ returns-in-Err-Fault-clause-exact c = λ bodies fault h.
     let other = reads_held inside.standing inside.begun inside.limit c.args.piece.now bodies fault live on in
     let met = c.in-Err-Fault.ensures.fault c.in-Err-Fault.fault (ap stopped c.in-Err-Fault.field-0-is) in
     let same = one_fault inside.limit (held_bytes inside.begun ++ c.args.piece.now) c.read.new.done.items bodies c.in-Err-Fault.fault fault met other in
-    inl (ap ended (c.from.ensures ∙ ap end_of same))
+    inl (ap ended (c.from.ensures ∙ ap answer_of same))
