@@ -1,0 +1,35 @@
+-- The value of each request of an editor (JSON-RPC 2.0, section 4).
+use Rattle.std.specs.Prelude.{ℕ, Bool, true, false, List, [], ◌∷◌, codes, map}
+use Rattle.serde_json.specs.Data as json
+use Rattle.serde_json.specs.Data.{Data}
+use Rattle.rpc_message.specs.Values.{object, array, whole, text, range, edit_params, version}
+use Rattle.rpc_message.specs.declared.messages.FromEditor.{FromEditor}
+use Rattle.rpc_message.specs.declared.messages.FromEditor.TheVariants.{Open, Close, Edit, Cursor, Shutdown, Response}
+
+-- the message is no request, but a response
+abbrev pub is_response : FromEditor → Bool
+is_response Response = true
+is_response _ = false
+
+-- the name of its method
+abbrev pub method : FromEditor → List ℕ
+method (Open uri content) = codes "open"
+method (Close uri) = codes "close"
+method (Edit uri revision edits) = codes "edit"
+method (Cursor uri ranges) = codes "cursor"
+method Shutdown = codes "shutdown"
+method Response = []
+
+-- its parameters
+abbrev pub params : FromEditor → Data
+params (Open uri content) = object ((codes "content", text content) ∷ (codes "uri", json.string uri) ∷ [])
+params (Close uri) = object ((codes "uri", json.string uri) ∷ [])
+params (Edit uri revision edits) = edit_params uri revision edits
+params (Cursor uri ranges) = object ((codes "ranges", array (map range ranges)) ∷ (codes "uri", json.string uri) ∷ [])
+params Shutdown = object []
+params Response = object []
+
+-- the value of a request with an id
+abbrev pub request : ℕ → FromEditor → Data
+request id message =
+    object ((codes "id", whole id) ∷ version ∷ (codes "method", json.string (method message)) ∷ (codes "params", params message) ∷ [])
