@@ -1,0 +1,4 @@
+pub mod EncodingLaws
+pub mod Written
+pub mod Readings
+mod Rows
