@@ -1,0 +1,14 @@
+pub mod ListLemmas
+pub mod HeldLemmas
+pub mod MessageLemmas
+pub mod MarkLemmas
+pub mod FrameLemmas
+pub mod PlainSteps
+pub mod GoodSteps
+pub mod HandledSteps
+pub mod Delivery
+pub mod Moves
+pub mod KeptLemmas
+pub mod FactLemmas
+pub mod LawLemmas
+pub mod Rows

@@ -1,0 +1,4 @@
+pub mod Link
+pub mod Faults
+pub mod Frames
+pub mod Carrying

@@ -1,0 +1,86 @@
+ghost use Rattle.std.specs.Prelude.{◌≡◌, ◌≤◌, ◌++◌, ◌∷◌, [], length, take, drop, IfOk, OnOk, OnErr};
+ghost use Rattle.delta.specs.Cells.{base_length, applied};
+ghost use Rattle.transform.specs.Carried.{IsChain, past_list, list_past};
+ghost use Rattle.editor_bridge.specs.Frames.{frames};
+ghost use Rattle.editor_bridge.specs.Carrying.{AreInTurn, StandsFor};
+
+use crate::frames::{BridgeFrame, frames_of};
+use delta::{Delta, compose};
+use std::alloc::{AllocError, Global};
+use transform::pass_list;
+use tt_base::{List, Text};
+
+/// Changes a text. After want of memory the text is as before.
+pub(crate) fn change(alloc: Global, text: &mut Text, delta: &Delta) -> Result<(), AllocError>
+    requires { base_length delta.now ≡ length text.old }
+    ensures ok { OnOk result (text.new ≡ applied delta.now text.old) }
+    ensures err { OnErr result (text.new ≡ text.old) }
+{
+    *text = delta.apply(alloc, text)?;
+    Ok(())
+}
+
+/// Deltas that apply one after the other, as one delta.
+pub(crate) fn compose_all(alloc: Global, first: &Delta, rest: &[Delta]) -> Result<Delta, AllocError>
+    requires { AreInTurn (first.now ∷ rest.now) }
+    ensures { IfOk result (StandsFor (first.now ∷ rest.now)) }
+{
+    let mut all = first.copied(alloc)?;
+    for delta in rest {
+        all = compose(alloc, &all, delta)?;
+    }
+    Ok(all)
+}
+
+/// The deltas that the editor has shown and then its own `p`, as one delta.
+fn compose_with(alloc: Global, shown: &[Delta], p: &Delta) -> Result<Delta, AllocError>
+    requires { AreInTurn (shown.now ++ p.now ∷ []) }
+    ensures { IfOk result (StandsFor (shown.now ++ p.now ∷ [])) }
+{
+    if shown.is_empty() {
+        p.copied(alloc)
+    } else {
+        let all = compose_all(alloc, &shown[0], &shown[1..])?;
+        compose(alloc, &all, p)
+    }
+}
+
+/// What an editor's delta makes of a link.
+#[derive(Debug, Drop)]
+pub(crate) struct Carried {
+    /// What happens to the base.
+    pub(crate) change: Delta,
+    /// The editor's delta past all that it had not shown.
+    pub(crate) delta: Delta,
+    /// All that it had not shown, past the editor's delta.
+    pub(crate) queue: List<Delta>,
+    /// The frames of these.
+    pub(crate) again: List<BridgeFrame>,
+}
+
+/// Carries an editor's delta past the deltas of a queue but for the first ones, which it had shown.
+pub(crate) fn carry(
+    alloc: Global,
+    queue: &[Delta],
+    shown: usize,
+    revision: u64,
+    p: Delta,
+) -> Result<Carried, AllocError>
+    requires within { shown ≤ length queue.now }
+    requires linked { AreInTurn (take shown queue.now ++ p ∷ []) }
+    requires chain { IsChain (base_length p) (drop shown queue.now) }
+    ensures change { IfOk result (λ c. StandsFor (take shown queue.now ++ p ∷ []) c.change) }
+    ensures delta { IfOk result (λ c. c.delta ≡ past_list p (drop shown queue.now)) }
+    ensures queue { IfOk result (λ c. c.queue ≡ list_past p (drop shown queue.now)) }
+    ensures again { IfOk result (λ c. c.again ≡ frames revision (list_past p (drop shown queue.now))) }
+{
+    let change = compose_with(alloc, &queue[..shown], &p)?;
+    let passed = pass_list(alloc, p, &queue[shown..])?;
+    let again = frames_of(alloc, revision, passed.list.as_slice())?;
+    Ok(Carried {
+        change,
+        delta: passed.delta,
+        queue: passed.list,
+        again,
+    })
+}
