@@ -1,0 +1,4 @@
+pub mod IdLemmas
+mod GreatestLemmas
+mod MakeLemmas
+mod WinnerLemmas
