@@ -1,0 +1,11 @@
+use Rattle.std.proofs.Common.{◌≡◌, ◌≤◌, length}
+use Rattle.replay_script.specs.Quotes.{place_after, given_by}
+use Rattle.replay_script.specs.declared.escapes.Place.TheVariants.{Between}
+use Rattle.replay_script.proofs.quotes.spelled_length.Given as goal
+
+abbrev pub invariant-loop-ch : goal.invariant-loop-ch
+invariant-loop-ch l = record {
+  place : l.place ≡ place_after Between l.yielded;
+  count : l.count ≡ length (given_by Between l.yielded);
+  few : l.count ≤ length l.yielded;
+}

@@ -1,0 +1,10 @@
+pub mod Arguments
+pub mod Contents
+pub mod Cut
+pub mod Laws
+pub mod Lines
+pub mod Numbers
+pub mod Paths
+pub mod Quotes
+pub mod Reads
+pub mod Words

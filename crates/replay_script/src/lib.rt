@@ -1,0 +1,28 @@
+//! The script language: from a line to its move, and back.
+#![tactic(auto)]
+
+mod arguments;
+mod contents;
+mod cuts;
+mod escapes;
+mod faults;
+pub mod laws;
+mod lines;
+mod modes;
+mod moves;
+mod numbers;
+mod paths;
+mod quotes;
+mod words;
+mod written;
+mod written_lines;
+
+pub use faults::LineFault;
+pub use lines::read_line;
+pub use modes::Mode;
+pub use moves::Move;
+pub use written::{write_path, write_text};
+pub use written_lines::write_line;
+
+#[cfg(test)]
+mod tests;
