@@ -80,7 +80,8 @@ module _ (lines done : List (List ℕ)) (k k' : SinkMeaning) (stops : StopsShort
       ∙ run_at (min 1 (length stops.left))
       ∙ ap (fold next run) (take_min 1 stops.left)
 
-  line_prints : (bytes : List ℕ) (line : ℕ) → (lines_of bytes).whole ≡ lines → line ≡ run.line + min 1 (length stops.left) → (run_to line bytes).printed ≡ run.printed ++ printed_next run.world stops.left
+  line_prints : (bytes : List ℕ) (line : ℕ) → (lines_of bytes).whole ≡ lines → line ≡ run.line + min 1 (length stops.left)
+      → (run_to line bytes).printed ≡ run.printed ++ printed_next run.world stops.left
   line_prints bytes line same_lines last = ap (λ r. r.printed) (next_line bytes line same_lines last) ∙ printed_at_next run stops.left stops.going
 
   pub is_short : (bytes : List ℕ) (line : ℕ) → (lines_of bytes).whole ≡ lines → line ≡ run.line + min 1 (length stops.left) → IsShortOf bytes written_front line
@@ -102,7 +103,8 @@ module _ (lines done : List (List ℕ)) (k k' : SinkMeaning) (stops : StopsShort
             );
       }
 
-  pub is_cut : (bytes : List ℕ) (line : ℕ) → (lines_of bytes).whole ≡ lines → line ≡ run.line + min 1 (length stops.left) → stops.count < length (printed_next run.world stops.left) → length written_front < length (run_to line bytes).printed
+  pub is_cut : (bytes : List ℕ) (line : ℕ) → (lines_of bytes).whole ≡ lines → line ≡ run.line + min 1 (length stops.left)
+      → stops.count < length (printed_next run.world stops.left) → length written_front < length (run_to line bytes).printed
   is_cut bytes line same_lines last short =
       let shown = printed_next run.world stops.left in
       omega (

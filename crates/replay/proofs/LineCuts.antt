@@ -45,12 +45,15 @@ rest_inner (b ∷ bytes) =
       | inr other ↦ rw other (rest_put b (lines_of bytes).whole (lines_of bytes).rest other (rest_inner bytes))
     ]
 
-put_more : (b : ℕ) (whole : List (List ℕ)) (rest more : List ℕ) → (b == 10) ≡ false → put_before b (whole ++ (lines_of (rest ++ more)).whole) (lines_of (rest ++ more)).rest ≡ record { whole = (put_before b whole rest).whole ++ (lines_of ((put_before b whole rest).rest ++ more)).whole; rest = (lines_of ((put_before b whole rest).rest ++ more)).rest }
+put_more : (b : ℕ) (whole : List (List ℕ)) (rest more : List ℕ) → (b == 10) ≡ false
+    → put_before b (whole ++ (lines_of (rest ++ more)).whole) (lines_of (rest ++ more)).rest
+    ≡ record { whole = (put_before b whole rest).whole ++ (lines_of ((put_before b whole rest).rest ++ more)).whole; rest = (lines_of ((put_before b whole rest).rest ++ more)).rest }
 put_more b [] rest more other = rw other refl
 put_more b (line ∷ lines) rest more other = refl
 
 -- more bytes go on with the line begun
-pub lines_more : (bytes more : List ℕ) → lines_of (bytes ++ more) ≡ record { whole = (lines_of bytes).whole ++ (lines_of ((lines_of bytes).rest ++ more)).whole; rest = (lines_of ((lines_of bytes).rest ++ more)).rest }
+pub lines_more : (bytes more : List ℕ)
+    → lines_of (bytes ++ more) ≡ record { whole = (lines_of bytes).whole ++ (lines_of ((lines_of bytes).rest ++ more)).whole; rest = (lines_of ((lines_of bytes).rest ++ more)).rest }
 lines_more [] more = refl
 lines_more (b ∷ bytes) more =
     elim (cases_Bool (b == 10)) [

@@ -1,5 +1,6 @@
 -- What `parse` gives of digits without a sign or a zero in front is the number of the grammar.
-use Rattle.std.proofs.Common.{◌≡◌, ℕ, ◌==◌, ◌<◌, ◌^◌, ◌&&◌, ◌||◌, Bool, true, false, List, length, get_or, slice_index, Some, None, Result, Ok, Err, nat_lt, refl, sym, ap, ◌∙◌, subst, arith, suc, zero, lit<, inl, inr}
+use Rattle.std.proofs.Common.{◌≡◌, ℕ, ◌==◌, ◌<◌, ◌^◌, ◌&&◌, ◌||◌, Bool, true, false, List, length, get_or, slice_index, Some}
+use Rattle.std.proofs.Common.{None, Result, Ok, Err, nat_lt, refl, sym, ap, ◌∙◌, subst, arith, suc, zero, lit<, inl, inr}
 use Rattle.std.proofs.lemmas.Bool.{cases_Bool, false≢true}
 use Rattle.std.proofs.lemmas.Bool.Decides.{nat_tests}
 use Rattle.std.proofs.lemmas.Fmt.{decimal-digits_value, decimal_is_IsNumeral, first_decimal, decimal_digit}

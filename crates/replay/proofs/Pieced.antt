@@ -3,11 +3,11 @@ use Rattle.std.proofs.Common.{◌≡◌, ◌≤◌, ℕ, ◌+◌, true, false, L
 use Rattle.std.proofs.lemmas.List.{append-nil, length-append, length-take-le}
 use Rattle.std.proofs.lemmas.List.Sums.{fold-append}
 use Rattle.std.specs.List.{list_all}
-use Rattle.outside.proofs.ToldLemmas.{with_back_nothing, with_back_more, with_front_nothing, with_front_more}
+use Rattle.outside.proofs.ToldLemmas.{append_known_nothing, append_known_more, prepend_known_nothing, prepend_known_more}
 use Rattle.outside.specs.SinkMeaning.{SinkMeaning}
 use Rattle.outside.specs.SourceMeaning.{SourceMeaning}
 use Rattle.outside.specs.Takes.{Takes}
-use Rattle.outside.specs.Told.{with_back, with_front}
+use Rattle.std.specs.Io.KnownBytes.{append_known, prepend_known}
 use Rattle.outside.specs.declared.sources.Took.TheVariants as Took
 use Rattle.replay.specs.Ending.{run_of, GaveBytes, WroteOutput, StopsShort, PlaysPiece, EndsSource, ending_of, printed_next}
 use Rattle.replay.specs.declared.player.Playing.{Playing}
@@ -41,13 +41,13 @@ nothing_taken s k player world pending line =
       sink_same = refl;
       bytes = [];
       count_is = refl;
-      gave = sym (with_front_nothing s.left);
+      gave = sym (prepend_known_nothing s.left);
       ended = refl;
       going = refl;
       world = world;
       line = line;
       pending = pending;
-      written = sym (with_back_nothing k.written);
+      written = sym (append_known_nothing k.written);
       few_lines = omega arith;
       within = omega arith;
     }
@@ -88,28 +88,28 @@ module _ (s s' s'' : SourceMeaning) (k k' : SinkMeaning) (player : Player) (coun
   run_is = ap (λ l. fold next not_started l.whole) lines_are ∙ run_after lines.whole
 
   gave : GaveBytes s s'' taken
-  gave = to.gave ∙ ap (with_front to.bytes) takes.so.2 ∙ with_front_more s''.left to.bytes piece
+  gave = to.gave ∙ ap (prepend_known to.bytes) takes.so.left ∙ prepend_known_more s''.left to.bytes piece
 
   few : count + n ≤ most_bytes → length taken ≤ most_bytes
-  few within = omega (arith, length-append to.bytes piece, to.count_is, length-take-le n buf takes.so.1)
+  few within = omega (arith, length-append to.bytes piece, to.count_is, length-take-le n buf takes.so.fits)
 
-  output : (k'' : SinkMeaning) → k''.written ≡ with_back k'.written (fold next (run_of player) lines.whole).printed → WroteOutput k k'' taken
+  output : (k'' : SinkMeaning) → k''.written ≡ append_known k'.written (fold next (run_of player) lines.whole).printed → WroteOutput k k'' taken
   output k'' wrote =
       wrote
-      ∙ ap (λ w. with_back w (fold next (run_of player) lines.whole).printed) to.written
-      ∙ with_back_more k.written before.printed (fold next (run_of player) lines.whole).printed
-      ∙ ap (with_back k.written) (sym (ap (λ run. run.printed) run_is))
+      ∙ ap (λ w. append_known w (fold next (run_of player) lines.whole).printed) to.written
+      ∙ append_known_more k.written before.printed (fold next (run_of player) lines.whole).printed
+      ∙ ap (append_known k.written) (sym (ap (λ run. run.printed) run_is))
 
   pub pieced_on : (player' : Player) (k'' : SinkMeaning) → PlaysPiece player player' k' k'' piece Playing.Whole → count + n ≤ most_bytes → TakenTo s s'' k k'' player' (count + n)
   pieced_on player' k'' plays within =
-      let same = length-take-le n buf takes.so.1 in
+      let same = length-take-le n buf takes.so.fits in
       record {
-        source_same = takes.so.4 ∙ to.source_same;
+        source_same = takes.so.faults ∙ to.source_same;
         sink_same = plays.kept (λ failed. cc) ∙ to.sink_same;
         bytes = taken;
         count_is = omega (arith, length-append to.bytes piece, to.count_is, same);
         gave = gave;
-        ended = takes.so.3 ∙ to.ended;
+        ended = takes.so.ended ∙ to.ended;
         going = ap (λ run. run.stuck) run_is ∙ plays.so.0;
         world = plays.so.1 ∙ sym (ap (λ run. run.world) run_is);
         line = plays.so.3 ∙ sym (ap (λ run. run.line) run_is);
@@ -119,7 +119,8 @@ module _ (s s' s'' : SourceMeaning) (k k' : SinkMeaning) (player : Player) (coun
         within = within;
       }
 
-  abbrev stops_short : (k'' : SinkMeaning) (done : List (List ℕ)) → StopsShort (run_of player) lines.whole done k' k'' → StopsShort not_started (lines_of taken).whole ((lines_of to.bytes).whole ++ done) k k''
+  abbrev stops_short : (k'' : SinkMeaning) (done : List (List ℕ)) → StopsShort (run_of player) lines.whole done k' k''
+      → StopsShort not_started (lines_of taken).whole ((lines_of to.bytes).whole ++ done) k k''
   stops_short k'' done stops =
       let here = fold next (run_of player) done in
       let front = take stops.count (printed_next here.world stops.left) in
@@ -131,24 +132,25 @@ module _ (s s' s'' : SourceMeaning) (k k' : SinkMeaning) (player : Player) (coun
         going = ap (λ run. run.stuck) (run_after done) ∙ stops.going;
         count = stops.count;
         written =
-            stops.written ∙ ap (λ w. with_back w (here.printed ++ front)) to.written
-            ∙ with_back_more k.written before.printed (here.printed ++ front)
-            ∙ ap (with_back k.written) (sym (append_assoc before.printed here.printed front))
-            ∙ ap (λ run. with_back k.written (run.printed ++ take stops.count (printed_next run.world stops.left))) (sym (run_after done));
+            stops.written ∙ ap (λ w. append_known w (here.printed ++ front)) to.written
+            ∙ append_known_more k.written before.printed (here.printed ++ front)
+            ∙ ap (append_known k.written) (sym (append_assoc before.printed here.printed front))
+            ∙ ap (λ run. append_known k.written (run.printed ++ take stops.count (printed_next run.world stops.left))) (sym (run_after done));
       }
 
   -- what each ending of a piece says of the counts and of how much was taken
-  pub piece_stops : (player' : Player) (k'' : SinkMeaning) (playing : Playing) → (playing ≡ Playing.Whole → ⊥) → PlaysPiece player player' k' k'' piece playing → count + n ≤ most_bytes → EndsSource s s'' k k'' (record { ending = ending_of playing; line = player'.line })
+  pub piece_stops : (player' : Player) (k'' : SinkMeaning) (playing : Playing) → (playing ≡ Playing.Whole → ⊥) → PlaysPiece player player' k' k'' piece playing
+      → count + n ≤ most_bytes → EndsSource s s'' k k'' (record { ending = ending_of playing; line = player'.line })
   piece_stops player' k'' Playing.Whole not_whole plays within = absurd (not_whole refl)
   piece_stops player' k'' Playing.Refused not_whole plays within =
       record {
         taken = taken;
         gave = gave;
         few = few within;
-        source_kept = λ _. takes.so.4 ∙ to.source_same;
+        source_kept = λ _. takes.so.faults ∙ to.source_same;
         sink_kept = λ _. plays.kept (λ failed. cc) ∙ to.sink_same;
         so = (
-          inl (ap (λ run. run.stuck) run_is ∙ plays.so.0, takes.so.3 ∙ to.ended),
+          inl (ap (λ run. run.stuck) run_is ∙ plays.so.0, takes.so.ended ∙ to.ended),
           plays.so.1 ∙ ap (λ run. run.line + 1) (sym run_is),
           output k'' plays.so.2,
         );
@@ -159,7 +161,7 @@ module _ (s s' s'' : SourceMeaning) (k k' : SinkMeaning) (player : Player) (coun
         taken = taken;
         gave = gave;
         few = few within;
-        source_kept = λ _. takes.so.4 ∙ to.source_same;
+        source_kept = λ _. takes.so.faults ∙ to.source_same;
         sink_kept = λ not_failed. absurd (not_failed refl);
         so = (
           (lines_of to.bytes).whole ++ done,
@@ -167,7 +169,7 @@ module _ (s s' s'' : SourceMeaning) (k k' : SinkMeaning) (player : Player) (coun
           omega (arith, plays.so.2, ap (λ run. length (printed_next run.world plays.so.1.left)) (run_after done)),
           plays.so.3 ∙ ap (λ run. run.line + 1) (sym (run_after done)),
           omega (arith, to.sink_same, plays.so.4),
-          takes.so.3 ∙ to.ended,
+          takes.so.ended ∙ to.ended,
         );
       }
   piece_stops player' k'' Playing.Memory not_whole plays within =
@@ -176,13 +178,13 @@ module _ (s s' s'' : SourceMeaning) (k k' : SinkMeaning) (player : Player) (coun
         taken = taken;
         gave = gave;
         few = few within;
-        source_kept = λ _. takes.so.4 ∙ to.source_same;
+        source_kept = λ _. takes.so.faults ∙ to.source_same;
         sink_kept = λ _. plays.kept (λ failed. cc) ∙ to.sink_same;
         so = (
           (lines_of to.bytes).whole ++ done,
           stops_short k'' done plays.so.1,
           plays.so.2 ∙ ap (λ run. run.line + min 1 (length plays.so.1.left)) (sym (run_after done)),
-          takes.so.3 ∙ to.ended,
+          takes.so.ended ∙ to.ended,
         );
       }
 
@@ -191,13 +193,13 @@ pub nothing_begun : (s : SourceMeaning) (k : SinkMeaning) → EndsSource s s k k
 nothing_begun s k =
     record {
       taken = [];
-      gave = sym (with_front_nothing s.left);
+      gave = sym (prepend_known_nothing s.left);
       few = omega arith;
       source_kept = λ _. refl;
       sink_kept = λ _. refl;
       so = (
         [],
-        record { left = []; lines_are = refl; going = refl; count = 0; written = sym (with_back_nothing k.written) },
+        record { left = []; lines_are = refl; going = refl; count = 0; written = sym (append_known_nothing k.written) },
         refl,
         refl,
       );

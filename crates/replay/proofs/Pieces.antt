@@ -3,9 +3,9 @@ use Rattle.std.proofs.Common.{◌≡◌, ◌≤◌, ℕ, ◌+◌, true, false, L
 use Rattle.std.proofs.lemmas.List.{append-nil, length-append}
 use Rattle.std.proofs.lemmas.List.Sums.{fold-append}
 use Rattle.std.specs.List.{list_all}
-use Rattle.outside.proofs.ToldLemmas.{with_back_nothing, with_back_more}
+use Rattle.outside.proofs.ToldLemmas.{append_known_nothing, append_known_more}
 use Rattle.outside.specs.SinkMeaning.{SinkMeaning}
-use Rattle.outside.specs.Told.{with_back}
+use Rattle.std.specs.Io.KnownBytes.{append_known}
 use Rattle.replay.specs.Ending.{run_of, printed_by, WroteFront, StopsShort, PlaysLine, PlaysPiece}
 use Rattle.replay.specs.Machine.{Played}
 use Rattle.replay.specs.Script.{Run, Lines, lines_of, next, goes_on, moved_on, line_played, is_inner}
@@ -27,7 +27,7 @@ pub record PlayedTo (first player : Player) (before now : SinkMeaning) (piece re
   pub going : (fold next (run_of first) done).stuck ≡ false
   pub world : player.world ≡ (fold next (run_of first) done).world
   pub line : player.line ≡ (fold next (run_of first) done).line
-  pub written : now.written ≡ with_back before.written (fold next (run_of first) done).printed
+  pub written : now.written ≡ append_known before.written (fold next (run_of first) done).printed
   pub inner : list_all is_inner player.pending.items ≡ true
   pub fits : player.line + length rest ≤ first.line + length piece
 
@@ -41,7 +41,7 @@ nothing_played first m piece inner =
       going = refl;
       world = refl;
       line = refl;
-      written = sym (with_back_nothing m.written);
+      written = sym (append_known_nothing m.written);
       inner = inner;
       fits = omega arith;
     }
@@ -77,7 +77,8 @@ module _ (first player : Player) (before now : SinkMeaning) (piece rest line aft
   run_further : (played : Option Played) → line_played player.world begun ≡ played → fold next (run_of first) (to.done ++ begun ∷ []) ≡ moved_on run played
   run_further played is = fold-append next (run_of first) to.done (begun ∷ []) ∙ at_line played is
 
-  pub played_on : (player' : Player) (new : SinkMeaning) → PlaysLine player.world player'.world now new begun Playing.Whole → player'.line ≡ player.line + 1 → player'.pending.items ≡ [] → PlayedTo first player' before new piece after
+  pub played_on : (player' : Player) (new : SinkMeaning) → PlaysLine player.world player'.world now new begun Playing.Whole → player'.line ≡ player.line + 1
+      → player'.pending.items ≡ [] → PlayedTo first player' before new piece after
   played_on player' new plays line_is emptied =
       let played = plays.so.0 in
       let further = run_further (Some played) plays.so.1 in
@@ -92,9 +93,9 @@ module _ (first player : Player) (before now : SinkMeaning) (piece rest line aft
         world = plays.so.2 ∙ sym (ap (λ r. r.world) further);
         line = line_is ∙ ap (λ n. n + 1) to.line ∙ sym (ap (λ r. r.line) further);
         written =
-            plays.so.3 ∙ ap (λ w. with_back w played.printed) to.written
-            ∙ with_back_more before.written run.printed played.printed
-            ∙ ap (with_back before.written) (sym (ap (λ r. r.printed) further));
+            plays.so.3 ∙ ap (λ w. append_known w played.printed) to.written
+            ∙ append_known_more before.written run.printed played.printed
+            ∙ ap (append_known before.written) (sym (ap (λ r. r.printed) further));
         inner = ap (λ pending. list_all is_inner pending) emptied;
         fits = omega (arith, ap length ends.cut, length-append line (10 ∷ after));
       }
@@ -113,9 +114,9 @@ module _ (first player : Player) (before now : SinkMeaning) (piece rest line aft
         going = to.going;
         count = wrote.0;
         written =
-            wrote.1 ∙ ap (λ w. with_back w front) to.written
-            ∙ with_back_more before.written run.printed front
-            ∙ ap (λ w. with_back before.written (run.printed ++ take wrote.0 (printed_by (line_played w begun)))) to.world;
+            wrote.1 ∙ ap (λ w. append_known w front) to.written
+            ∙ append_known_more before.written run.printed front
+            ∙ ap (λ w. append_known before.written (run.printed ++ take wrote.0 (printed_by (line_played w begun)))) to.world;
       }
 
   stopped : line_played player.world begun ≡ None → fold next (run_of first) (lines_from first piece).whole ≡ moved_on run None
@@ -126,7 +127,8 @@ module _ (first player : Player) (before now : SinkMeaning) (piece rest line aft
       ∙ fold-stuck (lines_of after).whole (moved_on run None) refl
 
   -- a line that ends the piece, by its end
-  pub piece_ended : (player' : Player) (new : SinkMeaning) (playing : Playing) → (playing ≡ Playing.Whole → ⊥) → PlaysLine player.world player'.world now new begun playing → player'.line ≡ player.line + 1 → PlaysPiece first player' before new piece playing
+  pub piece_ended : (player' : Player) (new : SinkMeaning) (playing : Playing) → (playing ≡ Playing.Whole → ⊥)
+      → PlaysLine player.world player'.world now new begun playing → player'.line ≡ player.line + 1 → PlaysPiece first player' before new piece playing
   piece_ended player' new Playing.Whole not_whole plays line_is = absurd (not_whole refl)
   piece_ended player' new Playing.Refused not_whole plays line_is =
       let end = stopped plays.so.0 in
@@ -137,7 +139,7 @@ module _ (first player : Player) (before now : SinkMeaning) (piece rest line aft
         so = (
           ap (λ r. r.stuck) end,
           line_is ∙ ap (λ n. n + 1) (to.line ∙ sym (ap (λ r. r.line) end)),
-          plays.so.1 ∙ to.written ∙ ap (with_back before.written) (sym (ap (λ r. r.printed) end)),
+          plays.so.1 ∙ to.written ∙ ap (append_known before.written) (sym (ap (λ r. r.printed) end)),
         );
       }
   piece_ended player' new Playing.SinkFailed not_whole plays line_is =
@@ -168,13 +170,16 @@ module _ (first player : Player) (before now : SinkMeaning) (piece rest line aft
         later = omega (arith, to.same);
         kept = λ _. to.same;
         few_lines = omega (arith, ap length ends.cut, length-append line (10 ∷ after), to.fits);
-        so = (to.done, front_written now (0, sym (with_back_nothing now.written)), omega (arith, line_is, to.line));
+        so = (to.done, front_written now (0, sym (append_known_nothing now.written)), omega (arith, line_is, to.line));
       }
 
 -- no line ends in the rest
-pub piece_begun : (first player player' : Player) (before now : SinkMeaning) (piece rest : List ℕ) → PlayedTo first player before now piece rest → list_all is_inner rest ≡ true → player'.world ≡ player.world → player'.pending.items ≡ player.pending.items ++ rest → player'.line ≡ player.line → PlaysPiece first player' before now piece Playing.Whole
+pub piece_begun : (first player player' : Player) (before now : SinkMeaning) (piece rest : List ℕ) → PlayedTo first player before now piece rest
+    → list_all is_inner rest ≡ true → player'.world ≡ player.world → player'.pending.items ≡ player.pending.items ++ rest → player'.line ≡ player.line
+    → PlaysPiece first player' before now piece Playing.Whole
 piece_begun first player player' before now piece rest to inner same_world kept same_line =
-    let begun : lines_from player rest ≡ record { whole = []; rest = player.pending.items ++ rest } = line_begun (player.pending.items ++ rest) (inner_append player.pending.items rest to.inner inner) in
+    let begun : lines_from player rest ≡ record { whole = []; rest = player.pending.items ++ rest } =
+    line_begun (player.pending.items ++ rest) (inner_append player.pending.items rest to.inner inner) in
     let whole : (lines_from first piece).whole ≡ to.done = to.whole ∙ ap (λ l. to.done ++ l.whole) begun ∙ append-nil to.done in
     let run : fold next (run_of first) (lines_from first piece).whole ≡ fold next (run_of first) to.done = ap (fold next (run_of first)) whole in
     record {
@@ -186,14 +191,16 @@ piece_begun first player player' before now piece rest to inner same_world kept 
         same_world ∙ to.world ∙ sym (ap (λ r. r.world) run),
         kept ∙ sym (to.behind ∙ ap (λ l. l.rest) begun),
         same_line ∙ to.line ∙ sym (ap (λ r. r.line) run),
-        to.written ∙ ap (with_back before.written) (sym (ap (λ r. r.printed) run)),
+        to.written ∙ ap (append_known before.written) (sym (ap (λ r. r.printed) run)),
       );
     }
 
 -- memory ran out for the bytes behind the last LF
-pub rest_not_kept : (first player player' : Player) (before now : SinkMeaning) (piece rest : List ℕ) → PlayedTo first player before now piece rest → list_all is_inner rest ≡ true → player'.line ≡ player.line → PlaysPiece first player' before now piece Playing.Memory
+pub rest_not_kept : (first player player' : Player) (before now : SinkMeaning) (piece rest : List ℕ) → PlayedTo first player before now piece rest
+    → list_all is_inner rest ≡ true → player'.line ≡ player.line → PlaysPiece first player' before now piece Playing.Memory
 rest_not_kept first player player' before now piece rest to inner same_line =
-    let begun : lines_from player rest ≡ record { whole = []; rest = player.pending.items ++ rest } = line_begun (player.pending.items ++ rest) (inner_append player.pending.items rest to.inner inner) in
+    let begun : lines_from player rest ≡ record { whole = []; rest = player.pending.items ++ rest } =
+    line_begun (player.pending.items ++ rest) (inner_append player.pending.items rest to.inner inner) in
     let run = fold next (run_of first) to.done in
     record {
       later = omega (arith, to.same);
@@ -206,7 +213,7 @@ rest_not_kept first player player' before now piece rest to inner same_line =
           lines_are = to.whole ∙ ap (λ l. to.done ++ l.whole) begun;
           going = to.going;
           count = 0;
-          written = to.written ∙ ap (with_back before.written) (sym (append-nil run.printed));
+          written = to.written ∙ ap (append_known before.written) (sym (append-nil run.printed));
         },
         omega (arith, same_line, to.line),
       );

@@ -1,9 +1,10 @@
 -- An editor and its daemon: what the daemon makes of the messages under way is what the editor shows.
-use Rattle.std.proofs.Common.{◌≡◌, ◌<◌, ℕ, ◌==◌, ◌&&◌, Bool, true, false, List, [], ◌∷◌, ◌++◌, length, fold, Option, Some, None, option_and_then, zero, suc, nat_lt, nat_le, refl, sym, ap, ◌∙◌, subst, arith}
+use Rattle.std.proofs.Common.{◌≡◌, ◌<◌, ℕ, ◌==◌, ◌&&◌, Bool, true, false, List, [], ◌∷◌, ◌++◌, length, fold}
+use Rattle.std.proofs.Common.{Option, Some, None, option_and_then, zero, suc, nat_lt, nat_le, refl, sym, ap, ◌∙◌, subst, arith}
 use Rattle.std.proofs.lemmas.Bool.Decides.{nat_tests}
 use Rattle.std.proofs.lemmas.List.Sums.{fold-append}
 use Rattle.std.specs.List.{slice_get, slice_set}
-use Rattle.replay.specs.Laws.{HasTextOf, QuietEditorHasItsDaemonsText}
+use Rattle.replay.specs.Laws.{HasTextOf, IsShownBy, QuietEditorHasItsDaemonsText}
 use Rattle.replay.specs.Machine.{WorldView, Played, step, only_if, handled, opened, typed, settled, most_editors, longest_text}
 use Rattle.replay.specs.Script.{Run, next, goes_on, moved_on, line_played, not_started}
 use Rattle.replay.specs.Grammar.{move_of}
@@ -59,7 +60,8 @@ typed_served daemons editor typing served =
           ∙ ap (λ file. (handled (record { file = file }) (Edit typing)).file) served.has;
     }
 
-settled_served : (daemons : List Daemon) (editor : Editor) (daemon : Daemon) → slice_get daemons editor.daemon ≡ Some daemon → IsServed daemons editor → IsServed (slice_set daemons editor.daemon (fold handled daemon editor.sent)) (settled editor)
+settled_served : (daemons : List Daemon) (editor : Editor) (daemon : Daemon) → slice_get daemons editor.daemon ≡ Some daemon → IsServed daemons editor
+    → IsServed (slice_set daemons editor.daemon (fold handled daemon editor.sent)) (settled editor)
 settled_served daemons editor daemon there served =
     let same : Some served.daemon ≡ Some daemon = sym served.there ∙ there in
     let is : served.daemon ≡ daemon = cc in
@@ -69,14 +71,17 @@ settled_served daemons editor daemon there served =
       has = ap (λ d. (fold handled d editor.sent).file) (sym is) ∙ served.has;
     }
 
-opened_served : (daemons : List Daemon) (editors : List Editor) (e d : ℕ) (path text : List ℕ) → (e == length editors && nat_lt e most_editors && nat_lt d (length daemons) && nat_le (length text) longest_text) ≡ true → AreServed daemons (editors ++ opened d path text ∷ [])
+opened_served : (daemons : List Daemon) (editors : List Editor) (e d : ℕ) (path text : List ℕ)
+    → (e == length editors && nat_lt e most_editors && nat_lt d (length daemons) && nat_le (length text) longest_text) ≡ true
+    → AreServed daemons (editors ++ opened d path text ∷ [])
 opened_served daemons [] e d path text possible =
     let known : d < length daemons = grind (arith, nat_tests) in
     let found = at_within daemons d known in
     record { daemon = found.0; there = found.1; has = refl }
 opened_served daemons (editor ∷ editors) e d path text possible = absurd (grind (arith, nat_tests))
 
-edited_served : (daemons : List Daemon) (editors : List Editor) (e : ℕ) (editor : Editor) (typing : Typing) → AreServed daemons editors → slice_get editors e ≡ Some editor → AreServed daemons (slice_set editors e (typed typing editor))
+edited_served : (daemons : List Daemon) (editors : List Editor) (e : ℕ) (editor : Editor) (typing : Typing) → AreServed daemons editors
+    → slice_get editors e ≡ Some editor → AreServed daemons (slice_set editors e (typed typing editor))
 edited_served daemons [] e editor typing served found = cc
 edited_served daemons (x ∷ []) zero editor typing served found =
     let is : x ≡ editor = cc in
@@ -84,7 +89,9 @@ edited_served daemons (x ∷ []) zero editor typing served found =
 edited_served daemons (x ∷ []) (suc e) editor typing served found = cc
 edited_served daemons (x ∷ other ∷ editors) e editor typing served found = absurd served
 
-delivered_served : (daemons : List Daemon) (editors : List Editor) (e : ℕ) (editor : Editor) (daemon : Daemon) → AreServed daemons editors → slice_get editors e ≡ Some editor → slice_get daemons editor.daemon ≡ Some daemon → AreServed (slice_set daemons editor.daemon (fold handled daemon editor.sent)) (slice_set editors e (settled editor))
+delivered_served : (daemons : List Daemon) (editors : List Editor) (e : ℕ) (editor : Editor) (daemon : Daemon) → AreServed daemons editors
+    → slice_get editors e ≡ Some editor → slice_get daemons editor.daemon ≡ Some daemon
+    → AreServed (slice_set daemons editor.daemon (fold handled daemon editor.sent)) (slice_set editors e (settled editor))
 delivered_served daemons [] e editor daemon served found there = cc
 delivered_served daemons (x ∷ []) zero editor daemon served found there =
     let is : x ≡ editor = cc in
@@ -141,18 +148,20 @@ run_good : (lines : List (List ℕ)) (run : Run) → Good run.world → Good (fo
 run_good [] run good = good
 run_good (line ∷ lines) run good = run_good lines (next run line) (goes_good run.stuck run line good)
 
-quiet_served : (daemons : List Daemon) (editors : List Editor) (e : ℕ) (editor : Editor) (daemon : Daemon) → AreServed daemons editors → slice_get editors e ≡ Some editor → slice_get daemons editor.daemon ≡ Some daemon → editor.sent ≡ [] → HasTextOf daemon editor
-quiet_served daemons [] e editor daemon served found there quiet = cc
-quiet_served daemons (x ∷ []) zero editor daemon served found there quiet =
+quiet_served : (daemons : List Daemon) (editors : List Editor) (e : ℕ) (editor : Editor) → AreServed daemons editors → slice_get editors e ≡ Some editor → editor.sent ≡ [] → IsShownBy daemons editor
+quiet_served daemons [] e editor served found quiet = cc
+quiet_served daemons (x ∷ []) zero editor served found quiet =
     let is : x ≡ editor = cc in
     let here = subst (IsServed daemons) is served in
-    let same : Some here.daemon ≡ Some daemon = sym here.there ∙ there in
-    let one : here.daemon ≡ daemon = cc in
-    ap (λ d. d.file) (sym one) ∙ ap (λ sent. (fold handled here.daemon sent).file) (sym quiet) ∙ here.has
-quiet_served daemons (x ∷ []) (suc e) editor daemon served found there quiet = cc
-quiet_served daemons (x ∷ other ∷ editors) e editor daemon served found there quiet = absurd served
+    record {
+      daemon = here.daemon;
+      there = here.there;
+      has = ap (λ sent. (fold handled here.daemon sent).file) (sym quiet) ∙ here.has;
+    }
+quiet_served daemons (x ∷ []) (suc e) editor served found quiet = cc
+quiet_served daemons (x ∷ other ∷ editors) e editor served found quiet = absurd served
 
 pub quiet_editor_has_its_daemons_text : QuietEditorHasItsDaemonsText
-quiet_editor_has_its_daemons_text lines e editor daemon found there quiet =
+quiet_editor_has_its_daemons_text lines e editor found quiet =
     let world = (fold next not_started lines).world in
-    quiet_served world.daemons world.editors e editor daemon (run_good lines not_started tt) found there quiet
+    quiet_served world.daemons world.editors e editor (run_good lines not_started tt) found quiet

@@ -7,7 +7,9 @@ use Rattle.std.specs.List.{list_all}
 use Rattle.std.specs.Str.{bytes_eq, chars}
 use Rattle.replay.specs.Grammar.{inside, text_of, is_plain}
 
-pub unquoted_end : (text rest : List ℕ) (r : Option (Bor (List ℕ))) → text ≡ 34 ∷ rest → MatchOption r ((front : List ℕ) → rest ≢ front ++ 34 ∷ []) (λ x. rest ≡ x.now ++ 34 ∷ []) → MatchOption r ((inner : List ℕ) → text ≢ 34 ∷ (inner ++ 34 ∷ [])) (λ x. text ≡ 34 ∷ (x.now ++ 34 ∷ []))
+pub unquoted_end : (text rest : List ℕ) (r : Option (Bor (List ℕ))) → text ≡ 34 ∷ rest
+    → MatchOption r ((front : List ℕ) → rest ≢ front ++ 34 ∷ []) (λ x. rest ≡ x.now ++ 34 ∷ [])
+    → MatchOption r ((inner : List ℕ) → text ≢ 34 ∷ (inner ++ 34 ∷ [])) (λ x. text ≡ 34 ∷ (x.now ++ 34 ∷ []))
 unquoted_end text rest None begins no_end = λ inner e. no_end inner (cc)
 unquoted_end text rest (Some x) begins ends = begins ∙ ap (λ r. 34 ∷ r) ends
 

@@ -1,7 +1,8 @@
 -- Laws of runs: a run after more lines, and what was printed before it.
-use Rattle.std.proofs.Common.{◌≡◌, ℕ, ◌+◌, Bool, true, false, List, [], ◌∷◌, ◌++◌, fold, length, Option, Some, None, inl, inr, arith, refl, sym, ap, ◌∙◌, append_assoc}
+use Rattle.std.proofs.Common.{◌≡◌, ℕ, ◌+◌, Bool, true, false, List, [], ◌∷◌, ◌++◌, fold, length, take, drop, Option, Some, None, inl, inr, arith, refl, sym, ap, ◌∙◌, append_assoc}
 use Rattle.std.proofs.lemmas.Bool.{cases_Bool}
-use Rattle.std.proofs.lemmas.List.{append-nil}
+use Rattle.std.proofs.lemmas.List.{append-nil, take-append-drop}
+use Rattle.std.proofs.lemmas.List.Sums.{fold-append}
 use Rattle.replay.specs.Machine.{Played}
 use Rattle.replay.specs.Script.{Run, next, goes_on, moved_on, line_played}
 
@@ -61,6 +62,13 @@ line_moved run (Some played) going = refl
 line_goes : (stuck : Bool) (run : Run) (line : List ℕ) → stuck ≡ false → (goes_on stuck run line).stuck ≡ false → (goes_on stuck run line).line ≡ run.line + 1
 line_goes true run line not_stuck going = cc
 line_goes false run line not_stuck going = line_moved run (line_played run.world line) going
+
+-- the lines before a line that is reached can be played
+pub stuck_before : (n : ℕ) (lines : List (List ℕ)) (run : Run) → (fold next run lines).stuck ≡ false → (fold next run (take n lines)).stuck ≡ false
+stuck_before n lines run going =
+    let all : fold next (fold next run (take n lines)) (drop n lines) ≡ fold next run lines =
+    sym (fold-append next run (take n lines) (drop n lines)) ∙ ap (fold next run) (take-append-drop n lines) in
+    stuck_later (drop n lines) (fold next run (take n lines)) (ap (λ r. r.stuck) all ∙ going)
 
 -- as long as it is not stuck, the machine counts the lines
 pub line_counts : (lines : List (List ℕ)) (run : Run) → (fold next run lines).stuck ≡ false → (fold next run lines).line ≡ run.line + length lines

@@ -1,39 +1,39 @@
 -- What each status says, by the ending that it stands for.
-use Rattle.std.proofs.Common.{◌≡◌, ◌≢◌, ◌⊎◌, ◌≤◌, ◌<◌, ℕ, ◌+◌, true, false, List, [], ◌++◌, length, fold, min, Option, Some, None, IfSome, inl, inr, refl, sym, ap, ◌∙◌, subst, arith}
-use Rattle.std.proofs.lemmas.List.{append-nil, append_cancel_left, append_cancel_right, length-append}
+use Rattle.std.proofs.Common.{◌≡◌, ◌≢◌, ◌⊎◌, ◌≤◌, ◌<◌, ℕ, ◌+◌, ◌-◌, true, false, List, [], ◌∷◌, ◌++◌, length, take, fold, min, Option, Some, None, IfSome, inl, inr, refl, sym, ap, ◌∙◌, subst, arith}
+use Rattle.std.proofs.lemmas.List.{append-nil, append_cancel_left, append_cancel_right, length-append, take-append-le}
 use Rattle.std.proofs.lemmas.List.Sums.{fold-append}
 use Rattle.outside.specs.Faults.{Rose}
 use Rattle.outside.specs.SinkMeaning.{SinkMeaning}
 use Rattle.outside.specs.SourceMeaning.{SourceMeaning}
-use Rattle.outside.specs.Told.{with_back, with_front}
+use Rattle.std.specs.Io.KnownBytes.{append_known, prepend_known}
 use Rattle.replay.specs.Ending.{GaveBytes, WroteOutput, StopsShort, EndsSource, EndedSo, IsRefused}
 use Rattle.replay.specs.Script.{lines_of, next, not_started, run_over, most_bytes}
-use Rattle.replay.specs.Table.{status_of, HasEnded, GoesOn, WasGiven, WasWritten, IsPlayable, IsPlayedTo, IsRefusedAt, IsCutOff, IsShortOf, IsFrontOf, run_to}
+use Rattle.replay.specs.Table.{status_of, HasEnded, GoesOn, WasGiven, WasWritten, IsPlayable, IsPlayedTo, IsRefusedAt, IsCutOff, IsShortOf, IsLineBegun, IsFrontOf, run_to}
 use Rattle.replay.specs.declared.playing.Ended.{Ended}
 use Rattle.replay.specs.declared.playing.Ending.{Ending}
 use Rattle.replay.proofs.Fronts.{written_front, is_front, is_short, is_cut, next_is_there}
 use Rattle.replay.proofs.LineCuts.{lines_more}
-use Rattle.replay.proofs.Runs.{stuck_later}
+use Rattle.replay.proofs.Runs.{stuck_later, stuck_before, line_counts}
 
 -- what a source tells fixes the bytes that it gave
 given_is : (s s' : SourceMeaning) (taken bytes : List ℕ) → GaveBytes s s' taken → WasGiven s s' bytes → taken ≡ bytes
 given_is s s' taken bytes gave given =
-    let same : Some (taken ++ given.left) ≡ Some (bytes ++ given.left) = ap (with_front taken) (sym given.after) ∙ sym gave ∙ given.before in
+    let same : Some (taken ++ given.left) ≡ Some (bytes ++ given.left) = ap (prepend_known taken) (sym given.after) ∙ sym gave ∙ given.before in
     append_cancel_right taken bytes given.left cc
 
 -- what a sink tells fixes the bytes written
-written_is : (k k' : SinkMeaning) (out written : List ℕ) → k'.written ≡ with_back k.written out → WasWritten k k' written → out ≡ written
+written_is : (k k' : SinkMeaning) (out written : List ℕ) → k'.written ≡ append_known k.written out → WasWritten k k' written → out ≡ written
 written_is k k' out written wrote told =
-    let same : Some (told.front ++ out) ≡ Some (told.front ++ written) = ap (λ w. with_back w out) (sym told.before) ∙ sym wrote ∙ told.after in
+    let same : Some (told.front ++ out) ≡ Some (told.front ++ written) = ap (λ w. append_known w out) (sym told.before) ∙ sym wrote ∙ told.after in
     append_cancel_left told.front out written cc
 
-all_of : (left : Option (List ℕ)) (taken all : List ℕ) → with_front taken left ≡ Some all → IfSome left (λ l. l ≡ []) → taken ≡ all
+all_of : (left : Option (List ℕ)) (taken all : List ℕ) → prepend_known taken left ≡ Some all → IfSome left (λ l. l ≡ []) → taken ≡ all
 all_of None taken all gave none = cc
 all_of (Some l) taken all gave none =
     let same : taken ++ l ≡ all = cc in
     sym (append-nil taken) ∙ ap (λ rest. taken ++ rest) (sym none) ∙ same
 
-left_of : (left : Option (List ℕ)) (taken all : List ℕ) → with_front taken left ≡ Some all → (l : List ℕ) × (left ≡ Some l)
+left_of : (left : Option (List ℕ)) (taken all : List ℕ) → prepend_known taken left ≡ Some all → (l : List ℕ) × (left ≡ Some l)
 left_of None taken all gave = cc
 left_of (Some l) taken all gave = (l, refl)
 
@@ -89,6 +89,24 @@ is_too_long Ending.SinkFailed h = cc
 is_too_long Ending.Memory h = cc
 is_too_long Ending.TooLong h = refl
 
+no_lines : (lines : List (List ℕ)) → length lines ≡ 0 → lines ≡ []
+no_lines [] none = refl
+no_lines (line ∷ lines) none = absurd (omega arith)
+
+-- where the lines `done` were played, the line begun is the one behind them, or the last of them
+line_begun : (bytes : List ℕ) (done left : List (List ℕ)) (line : ℕ) → (lines_of bytes).whole ≡ done ++ left → (fold next not_started done).stuck ≡ false
+    → line ≡ (fold next not_started done).line + min 1 (length left) → IsLineBegun bytes line
+line_begun bytes done left line whole going last =
+    let counted : (fold next not_started done).line ≡ 0 + length done = line_counts done not_started going in
+    let size : length (lines_of bytes).whole ≡ length done + length left = ap length whole ∙ length-append done left in
+    let before : line - 1 ≤ length done = omega arith in
+    let front : take (line - 1) (lines_of bytes).whole ≡ take (line - 1) done = ap (take (line - 1)) whole ∙ take-append-le (line - 1) done left before in
+    record {
+      within = omega arith;
+      going = ap (λ lines. (fold next not_started lines).stuck) front ∙ stuck_before (line - 1) done not_started going;
+      none = λ nothing. no_lines (lines_of bytes).whole (omega arith);
+    }
+
 module _ (s s' : SourceMeaning) (k k' : SinkMeaning) (ended : Ended) (ends : EndsSource s s' k k' ended) where
   at_ending : (ending : Ending) → ended.ending ≡ ending → EndedSo s s' k k' ends.taken ending ended.line
   at_ending ending is = subst (λ e. EndedSo s s' k k' ends.taken e ended.line) is ends.so
@@ -106,7 +124,7 @@ module _ (s s' : SourceMeaning) (k k' : SinkMeaning) (ended : Ended) (ends : End
   pub finished_output : status_of ended.ending ≡ 0 → (all front : List ℕ) → s.left ≡ Some all → k.written ≡ Some front → k'.written ≡ Some (front ++ (run_over all).printed)
   finished_output none all front told wrote =
       let so = at_ending Ending.Finished (is_finished _ none) in
-      so.3 ∙ ap (λ w. with_back w (run_over ends.taken).printed) wrote
+      so.3 ∙ ap (λ w. append_known w (run_over ends.taken).printed) wrote
       ∙ ap (λ bytes. Some (front ++ (run_over bytes).printed)) (all_taken s s' ends.taken all ends.gave so.4 told)
 
   refused_so : (line : ℕ) → IsRefused s ends.taken s' → line ≡ (run_over ends.taken).line + 1 → (IsRefusedAt ends.taken line × GoesOn s s') ⊎ (IsCutOff ends.taken line × HasEnded s')
@@ -161,9 +179,9 @@ module _ (s s' : SourceMeaning) (k k' : SinkMeaning) (ended : Ended) (ends : End
   pub bytes_given : (all : List ℕ) → s.left ≡ Some all → (bytes : List ℕ) × WasGiven s s' bytes
   bytes_given all told =
       let rest = left_of s'.left ends.taken all (sym ends.gave ∙ told) in
-      (ends.taken, record { left = rest.0; before = ends.gave ∙ ap (with_front ends.taken) rest.1; after = rest.1 })
+      (ends.taken, record { left = rest.0; before = ends.gave ∙ ap (prepend_known ends.taken) rest.1; after = rest.1 })
 
-  out_so : (ending : Ending) → EndedSo s s' k k' ends.taken ending ended.line → (out : List ℕ) × (k'.written ≡ with_back k.written out)
+  out_so : (ending : Ending) → EndedSo s s' k k' ends.taken ending ended.line → (out : List ℕ) × (k'.written ≡ append_known k.written out)
   out_so Ending.Finished so = ((run_over ends.taken).printed, so.3)
   out_so Ending.Refused so = ((run_over ends.taken).printed, so.2)
   out_so Ending.SourceFailed so = ((run_over ends.taken).printed, so.2)
@@ -175,7 +193,7 @@ module _ (s s' : SourceMeaning) (k k' : SinkMeaning) (ended : Ended) (ends : End
   pub bytes_written : (front : List ℕ) → k.written ≡ Some front → (bytes : List ℕ) × WasWritten k k' bytes
   bytes_written front told =
       let out = out_so ended.ending ends.so in
-      (out.0, record { front = front; before = told; after = out.1 ∙ ap (λ w. with_back w out.0) told })
+      (out.0, record { front = front; before = told; after = out.1 ∙ ap (λ w. append_known w out.0) told })
 
   pub bytes_are_few : (bytes : List ℕ) → WasGiven s s' bytes → length bytes ≤ most_bytes
   bytes_are_few bytes given = subst (λ b. length b ≤ most_bytes) (given_is s s' ends.taken bytes ends.gave given) ends.few
@@ -229,7 +247,8 @@ module _ (s s' : SourceMeaning) (k k' : SinkMeaning) (ended : Ended) (ends : End
   cut_off_is_refused bytes given before after behind =
       cut_so ended.ending ends.so before after (λ none. behind (ap (λ b. (lines_of b).rest) (sym (given_is s s' ends.taken bytes ends.gave given)) ∙ none))
 
-  full_so : (ending : Ending) → EndedSo s s' k k' ends.taken ending ended.line → length ends.taken ≡ most_bytes → (status_of ending ≡ 7) ⊎ (status_of ending ≡ 2) ⊎ (status_of ending ≡ 5) ⊎ (status_of ending ≡ 6)
+  full_so : (ending : Ending) → EndedSo s s' k k' ends.taken ending ended.line → length ends.taken ≡ most_bytes
+      → (status_of ending ≡ 7) ⊎ (status_of ending ≡ 2) ⊎ (status_of ending ≡ 5) ⊎ (status_of ending ≡ 6)
   full_so Ending.Finished so full = absurd (omega (arith, so.5))
   full_so Ending.Refused so full = inr (inl refl)
   full_so Ending.SourceFailed so full = absurd (omega (arith, so.5))
@@ -237,11 +256,13 @@ module _ (s s' : SourceMeaning) (k k' : SinkMeaning) (ended : Ended) (ends : End
   full_so Ending.Memory so full = inr (inr (inr refl))
   full_so Ending.TooLong so full = inl refl
 
-  pub full_is_too_long : (bytes : List ℕ) → WasGiven s s' bytes → length bytes ≡ most_bytes → (status_of ended.ending ≡ 7) ⊎ (status_of ended.ending ≡ 2) ⊎ (status_of ended.ending ≡ 5) ⊎ (status_of ended.ending ≡ 6)
+  pub full_is_too_long : (bytes : List ℕ) → WasGiven s s' bytes → length bytes ≡ most_bytes
+      → (status_of ended.ending ≡ 7) ⊎ (status_of ended.ending ≡ 2) ⊎ (status_of ended.ending ≡ 5) ⊎ (status_of ended.ending ≡ 6)
   full_is_too_long bytes given full =
       full_so ended.ending ends.so (ap length (given_is s s' ends.taken bytes ends.gave given) ∙ full)
 
-  pub sink_failed_short : status_of ended.ending ≡ 5 → (bytes written : List ℕ) → WasGiven s s' bytes → WasWritten k k' written → IsShortOf bytes written ended.line × (length written < length (run_to ended.line bytes).printed)
+  pub sink_failed_short : status_of ended.ending ≡ 5 → (bytes written : List ℕ) → WasGiven s s' bytes → WasWritten k k' written
+      → IsShortOf bytes written ended.line × (length written < length (run_to ended.line bytes).printed)
   sink_failed_short five bytes written given told =
       let so = at_ending Ending.SinkFailed (is_sink_failed _ five) in
       let lines = (lines_of ends.taken).whole in
@@ -260,12 +281,20 @@ module _ (s s' : SourceMeaning) (k k' : SinkMeaning) (ended : Ended) (ends : End
       subst (λ b. IsShortOf b written ended.line) (given_is s s' ends.taken bytes ends.gave given)
       (subst (λ w. IsShortOf ends.taken w ended.line) (written_is k k' _ written so.1.written told) here)
 
-  front_of : (done : List (List ℕ)) → StopsShort not_started (lines_of ends.taken).whole done k k' → (bytes written : List ℕ) → WasGiven s s' bytes → WasWritten k k' written → IsFrontOf written (run_over bytes).printed
+  pub memory_line : status_of ended.ending ≡ 6 → (bytes : List ℕ) → WasGiven s s' bytes → IsLineBegun bytes ended.line
+  memory_line six bytes given =
+      let so = at_ending Ending.Memory (is_memory _ six) in
+      let here = line_begun ends.taken so.0 so.1.left ended.line so.1.lines_are so.1.going so.2 in
+      subst (λ b. IsLineBegun b ended.line) (given_is s s' ends.taken bytes ends.gave given) here
+
+  front_of : (done : List (List ℕ)) → StopsShort not_started (lines_of ends.taken).whole done k k' → (bytes written : List ℕ) → WasGiven s s' bytes
+      → WasWritten k k' written → IsFrontOf written (run_over bytes).printed
   front_of done stops bytes written given told =
       subst (λ b. IsFrontOf written (run_over b).printed) (given_is s s' ends.taken bytes ends.gave given)
       (subst (λ w. IsFrontOf w (run_over ends.taken).printed) (written_is k k' _ written stops.written told) (is_front (lines_of ends.taken).whole done k k' stops))
 
-  front_so : (ending : Ending) → EndedSo s s' k k' ends.taken ending ended.line → (status_of ending ≡ 5) ⊎ (status_of ending ≡ 6) → (bytes written : List ℕ) → WasGiven s s' bytes → WasWritten k k' written → IsFrontOf written (run_over bytes).printed
+  front_so : (ending : Ending) → EndedSo s s' k k' ends.taken ending ended.line → (status_of ending ≡ 5) ⊎ (status_of ending ≡ 6) → (bytes written : List ℕ)
+      → WasGiven s s' bytes → WasWritten k k' written → IsFrontOf written (run_over bytes).printed
   front_so Ending.Finished so short = elim short [ inl h ↦ cc | inr h ↦ cc ]
   front_so Ending.Refused so short = elim short [ inl h ↦ cc | inr h ↦ cc ]
   front_so Ending.SourceFailed so short = elim short [ inl h ↦ cc | inr h ↦ cc ]
@@ -277,7 +306,8 @@ module _ (s s' : SourceMeaning) (k k' : SinkMeaning) (ended : Ended) (ends : End
   short_output short = front_so ended.ending ends.so short
 
 -- what was taken of a script that can be played can be played
-front_plays : (left : Option (List ℕ)) (taken script : List ℕ) → with_front taken left ≡ Some script → (run_over script).stuck ≡ false → ((run_over taken).stuck ≡ false) × (length taken ≤ length script)
+front_plays : (left : Option (List ℕ)) (taken script : List ℕ) → prepend_known taken left ≡ Some script → (run_over script).stuck ≡ false
+    → ((run_over taken).stuck ≡ false) × (length taken ≤ length script)
 front_plays None taken script gave plays = cc
 front_plays (Some l) taken script gave plays =
     let same : taken ++ l ≡ script = cc in
@@ -287,7 +317,8 @@ front_plays (Some l) taken script gave plays =
       omega (arith, ap length same, length-append taken l),
     )
 
-module _ (s s' : SourceMeaning) (k k' : SinkMeaning) (ended : Ended) (ends : EndsSource s s' k k' ended) (script : List ℕ) (told : s.left ≡ Some script) (plays : IsPlayable script) (small : length script < most_bytes) (sure_source : Rose s.faults s'.faults → ⊥) (sure_sink : Rose k.faults k'.faults → ⊥) where
+module _ (s s' : SourceMeaning) (k k' : SinkMeaning) (ended : Ended) (ends : EndsSource s s' k k' ended) (script : List ℕ) (told : s.left ≡ Some script)
+    (plays : IsPlayable script) (small : length script < most_bytes) (sure_source : Rose s.faults s'.faults → ⊥) (sure_sink : Rose k.faults k'.faults → ⊥) where
   front : ((run_over ends.taken).stuck ≡ false) × (length ends.taken ≤ length script)
   front = front_plays s'.left ends.taken script (sym ends.gave ∙ told) plays.going
 

@@ -1,7 +1,7 @@
 -- How the playing of a line, of a piece of a script and of a whole script ends, by what was taken and written.
 use Rattle.std.specs.Prelude.{◌≡◌, ◌≢◌, ◌⊎◌, ℕ, ◌+◌, ◌==◌, ◌≤◌, ◌<◌, true, false, List, [], ◌∷◌, ◌++◌, length, take, fold, min, Option, Some, None, if◌then◌else◌}
 use Rattle.outside.specs.Faults.{Rose}
-use Rattle.outside.specs.Told.{with_front, with_back}
+use Rattle.std.specs.Io.KnownBytes.{prepend_known, append_known}
 use Rattle.outside.specs.SourceMeaning.{SourceMeaning}
 use Rattle.outside.specs.SinkMeaning.{SinkMeaning}
 use Rattle.replay.specs.Machine.{WorldView, Played}
@@ -16,15 +16,15 @@ use Rattle.replay.specs.declared.player.Player.{Player}
 
 -- a front of these bytes was written, and nothing else
 abbrev pub WroteFront : SinkMeaning → SinkMeaning → List ℕ → Type 0
-WroteFront old new bytes = (n : ℕ) × (new.written ≡ with_back old.written (take n bytes))
+WroteFront old new bytes = (n : ℕ) × (new.written ≡ append_known old.written (take n bytes))
 
 -- a front of these bytes was written that is not all of them
 abbrev pub WroteShort : SinkMeaning → SinkMeaning → List ℕ → Type 0
-WroteShort old new bytes = (n : ℕ) × (n < length bytes) × (new.written ≡ with_back old.written (take n bytes))
+WroteShort old new bytes = (n : ℕ) × (n < length bytes) × (new.written ≡ append_known old.written (take n bytes))
 
 -- what the writing of some bytes does, by its end
 abbrev pub WroteSo : SinkMeaning → SinkMeaning → List ℕ → Writing → Type 0
-WroteSo old new bytes Writing.Whole = new.written ≡ with_back old.written bytes
+WroteSo old new bytes Writing.Whole = new.written ≡ append_known old.written bytes
 WroteSo old new bytes Writing.Failed = WroteShort old new bytes × Rose old.faults new.faults
 WroteSo old new bytes Writing.Memory = WroteFront old new bytes
 
@@ -42,7 +42,7 @@ printed_by (Some played) = played.printed
 -- what the playing of one line does to the world and the sink, by its end
 abbrev pub LineSo : WorldView → WorldView → SinkMeaning → SinkMeaning → List ℕ → Playing → Type 0
 LineSo world world' old new line Playing.Whole =
-    (played : Played) × (line_played world line ≡ Some played) × (world' ≡ played.world) × (new.written ≡ with_back old.written played.printed)
+    (played : Played) × (line_played world line ≡ Some played) × (world' ≡ played.world) × (new.written ≡ append_known old.written played.printed)
 LineSo world world' old new line Playing.Refused = (line_played world line ≡ None) × (new.written ≡ old.written)
 LineSo world world' old new line Playing.SinkFailed =
     WroteShort old new (printed_by (line_played world line)) × Rose old.faults new.faults
@@ -69,18 +69,19 @@ pub record StopsShort (start : Run) (lines done : List (List ℕ)) (old new : Si
   pub lines_are : lines ≡ done ++ left
   pub going : (fold next start done).stuck ≡ false
   pub count : ℕ
-  pub written : new.written ≡ with_back old.written ((fold next start done).printed ++ take count (printed_next (fold next start done).world left))
+  pub written : new.written ≡ append_known old.written ((fold next start done).printed ++ take count (printed_next (fold next start done).world left))
 
 -- how the lines of a piece were played, with the line begun in front: the lines, and the run over them
 abbrev pub PieceSo : Player → Player → SinkMeaning → SinkMeaning → Lines → Playing → Type 0
 PieceSo player player' old new lines Playing.Whole =
     let run = fold next (run_of player) lines.whole in
-    (run.stuck ≡ false) × (player'.world ≡ run.world) × (player'.pending.items ≡ lines.rest) × (player'.line ≡ run.line) × (new.written ≡ with_back old.written run.printed)
+    (run.stuck ≡ false) × (player'.world ≡ run.world) × (player'.pending.items ≡ lines.rest) × (player'.line ≡ run.line) × (new.written ≡ append_known old.written run.printed)
 PieceSo player player' old new lines Playing.Refused =
     let run = fold next (run_of player) lines.whole in
-    (run.stuck ≡ true) × (player'.line ≡ run.line + 1) × (new.written ≡ with_back old.written run.printed)
+    (run.stuck ≡ true) × (player'.line ≡ run.line + 1) × (new.written ≡ append_known old.written run.printed)
 PieceSo player player' old new lines Playing.SinkFailed =
-    (done : List (List ℕ)) × (stops : StopsShort (run_of player) lines.whole done old new) × (stops.count < length (printed_next (fold next (run_of player) done).world stops.left)) × (player'.line ≡ (fold next (run_of player) done).line + 1) × Rose old.faults new.faults
+    (done : List (List ℕ)) × (stops : StopsShort (run_of player) lines.whole done old new)
+    × (stops.count < length (printed_next (fold next (run_of player) done).world stops.left)) × (player'.line ≡ (fold next (run_of player) done).line + 1) × Rose old.faults new.faults
 PieceSo player player' old new lines Playing.Memory =
     (done : List (List ℕ)) × (stops : StopsShort (run_of player) lines.whole done old new) × (player'.line ≡ (fold next (run_of player) done).line + min 1 (length stops.left))
 
@@ -107,11 +108,11 @@ ending_of Playing.Memory = Ending.Memory
 
 -- the bytes that a source gave between two moments: those in front of what it has left
 abbrev pub GaveBytes : SourceMeaning → SourceMeaning → List ℕ → Type 0
-GaveBytes old new bytes = old.left ≡ with_front bytes new.left
+GaveBytes old new bytes = old.left ≡ prepend_known bytes new.left
 
 -- the whole output of the lines of these bytes was written
 abbrev pub WroteOutput : SinkMeaning → SinkMeaning → List ℕ → Type 0
-WroteOutput old new bytes = new.written ≡ with_back old.written (run_over bytes).printed
+WroteOutput old new bytes = new.written ≡ append_known old.written (run_over bytes).printed
 
 -- the line after those played cannot be played, or the script ends within it
 abbrev pub IsRefused : SourceMeaning → List ℕ → SourceMeaning → Type 0
@@ -127,7 +128,8 @@ EndedSo s s' k k' taken Ending.Refused line =
 EndedSo s s' k k' taken Ending.SourceFailed line =
     ((run_over taken).stuck ≡ false) × (line ≡ (run_over taken).line) × WroteOutput k k' taken × Rose s.faults s'.faults × GoesOn s s' × (length taken < most_bytes)
 EndedSo s s' k k' taken Ending.SinkFailed line =
-    (done : List (List ℕ)) × (stops : StopsShort not_started (lines_of taken).whole done k k') × (stops.count < length (printed_next (fold next not_started done).world stops.left)) × (line ≡ (fold next not_started done).line + 1) × Rose k.faults k'.faults × GoesOn s s'
+    (done : List (List ℕ)) × (stops : StopsShort not_started (lines_of taken).whole done k k')
+    × (stops.count < length (printed_next (fold next not_started done).world stops.left)) × (line ≡ (fold next not_started done).line + 1) × Rose k.faults k'.faults × GoesOn s s'
 EndedSo s s' k k' taken Ending.Memory line =
     (done : List (List ℕ)) × (stops : StopsShort not_started (lines_of taken).whole done k k') × (line ≡ (fold next not_started done).line + min 1 (length stops.left)) × GoesOn s s'
 EndedSo s s' k k' taken Ending.TooLong line =

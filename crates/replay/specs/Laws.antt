@@ -8,8 +8,15 @@ use Rattle.replay.specs.declared.world.Editor.{Editor}
 abbrev pub HasTextOf : Daemon → Editor → Type 0
 HasTextOf daemon editor = daemon.file ≡ Some (record { path = editor.path; text = editor.text })
 
+-- the editor's daemon is among the daemons, and has its file and text
+pub record IsShownBy (daemons : List Daemon) (editor : Editor) : Type 0 where
+  pub daemon : Daemon
+  pub there : slice_get daemons editor.daemon ≡ Some daemon
+  pub has : HasTextOf daemon editor
+
+-- after any lines that can be played, an editor with nothing under way shows what its daemon has
 abbrev pub QuietEditorHasItsDaemonsText : Type 0
 QuietEditorHasItsDaemonsText =
-    (lines : List (List ℕ)) (e : ℕ) (editor : Editor) (daemon : Daemon) →
+    (lines : List (List ℕ)) (e : ℕ) (editor : Editor) →
     let world = (fold next not_started lines).world in
-    slice_get world.editors e ≡ Some editor → slice_get world.daemons editor.daemon ≡ Some daemon → editor.sent ≡ [] → HasTextOf daemon editor
+    slice_get world.editors e ≡ Some editor → editor.sent ≡ [] → IsShownBy world.daemons editor

@@ -5,6 +5,7 @@ use Rattle.std.specs.Option.{option_map}
 use Rattle.std.specs.Fmt.{decimal}
 use Rattle.replay.specs.Grammar.{◌>>=◌}
 use Rattle.replay.specs.declared.moves.Move.{Move}
+use Rattle.replay.specs.declared.world.TheConstants.{MOST_DAEMONS, MOST_EDITORS, LONGEST_TEXT}
 use Rattle.replay.specs.declared.world.Daemon.{Daemon}
 use Rattle.replay.specs.declared.world.Editor.{Editor}
 use Rattle.replay.specs.declared.world.File.{File}
@@ -24,13 +25,13 @@ pub record Played : Type 0 where
 
 -- how many daemons and editors a script may have, and how long the texts that it sends may be
 abbrev pub most_daemons : ℕ
-most_daemons = 1
+most_daemons = MOST_DAEMONS
 
 abbrev pub most_editors : ℕ
-most_editors = 1
+most_editors = MOST_EDITORS
 
 abbrev pub longest_text : ℕ
-longest_text = 4194304
+longest_text = LONGEST_TEXT
 
 -- before the first line: no daemons and no editors
 abbrev pub beginning : WorldView

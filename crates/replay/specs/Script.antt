@@ -1,5 +1,6 @@
 -- A script as a whole: its bytes, its lines, and the run of the machine over them.
-use Rattle.std.specs.Prelude.{ℕ, ◌+◌, ◌^◌, ◌==◌, Bool, true, false, not, List, [], ◌∷◌, ◌++◌, fold, Option, Some, None, if◌then◌else◌}
+use Rattle.std.specs.Prelude.{ℕ, ◌+◌, ◌==◌, Bool, true, false, not, List, [], ◌∷◌, ◌++◌, fold, Option, Some, None, if◌then◌else◌}
+use Rattle.replay.specs.declared.playing.TheConstants.{MOST_BYTES}
 use Rattle.replay.specs.Grammar.{◌>>=◌, move_of}
 use Rattle.replay.specs.Machine.{WorldView, Played, beginning, step}
 
@@ -59,4 +60,4 @@ run_over bytes = fold next not_started (lines_of bytes).whole
 
 -- how many bytes of a script are taken at most
 abbrev pub most_bytes : ℕ
-most_bytes = 2 ^ 40
+most_bytes = MOST_BYTES

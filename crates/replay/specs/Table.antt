@@ -70,6 +70,12 @@ pub record IsShortOf (bytes written : List ℕ) (line : ℕ) : Type 0 where
 abbrev pub IsFrontOf : List ℕ → List ℕ → Type 0
 IsFrontOf written printed = (count : ℕ) × (written ≡ take count printed)
 
+-- all lines before this one can be played, and it is 0 only where no line is whole
+pub record IsLineBegun (bytes : List ℕ) (line : ℕ) : Type 0 where
+  pub within : line ≤ length (lines_of bytes).whole
+  pub going : (run_to (line - 1) bytes).stuck ≡ false
+  pub none : line ≡ 0 → (lines_of bytes).whole ≡ []
+
 -- the statuses of a replay
 abbrev pub IsStatus : ℕ → Type 0
 IsStatus status = (status ≡ 0) ⊎ (status ≡ 1) ⊎ (status ≡ 2) ⊎ (status ≡ 4) ⊎ (status ≡ 5) ⊎ (status ≡ 6) ⊎ (status ≡ 7)

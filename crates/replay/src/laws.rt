@@ -3,8 +3,8 @@
 
 ghost use Rattle.replay.specs.Laws.{QuietEditorHasItsDaemonsText};
 
-/// After any lines that can be played, an editor with nothing under way shows the text that its
-/// daemon has of its file.
+/// After any lines that can be played, an editor with nothing under way has a daemon, which has its
+/// file with the text that the editor shows.
 pub fn quiet_editor_has_its_daemons_text()
     ensures { QuietEditorHasItsDaemonsText }
 {}

@@ -1,6 +1,6 @@
-ghost use Rattle.std.specs.Prelude.{◌≡◌, ◌≢◌, ◌∷◌, ◌++◌, [], List, ℕ, ◌==◌, ◌&&◌, ◌||◌, nat_lt, length, slice_index, None, Some, IfOk, MatchOption};
+ghost use Rattle.std.specs.Prelude.{◌≡◌, ◌≢◌, ◌∷◌, ◌++◌, [], List, ℕ, ◌==◌, ◌&&◌, ◌||◌, nat_lt, length, slice_index, false, None, Some, IfOk, MatchOption};
 ghost use Rattle.std.specs.List.{list_all};
-ghost use Rattle.std.specs.Str.{chars};
+ghost use Rattle.std.specs.Str.{chars, is_utf8};
 ghost use Rattle.replay.specs.Grammar.{is_bare, is_plain, refusal_of, cut, number_of, path_of, text_of, editor_of, typed_of, by_word, asked_by, move_of};
 
 use crate::moves::Move;
@@ -68,6 +68,7 @@ impl From<PathFault> for LineFault {
 fn read_path(alloc: Global, text: &str) -> Result<SharedPath, LineFault>
     ensures path { IfOk result (λ path. path_of text.now ≡ Some path) }
     ensures refused { result ≡ Err LineFault.NotAMove → path_of text.now ≡ None }
+    ensures no_path { path_of text.now ≡ None → result ≡ Err LineFault.NotAMove }
 {
     if !is_bare_text(text) {
         return Err(LineFault::NotAMove);
@@ -97,6 +98,7 @@ fn unquoted(text: &str) -> Option<&str>
 fn read_text(alloc: Global, text: &str) -> Result<Text, LineFault>
     ensures text { IfOk result (λ read. text_of text.now ≡ Some read) }
     ensures refused { result ≡ Err LineFault.NotAMove → text_of text.now ≡ None }
+    ensures no_text { text_of text.now ≡ None → result ≡ Err LineFault.NotAMove }
 {
     let Some(inner) = unquoted(text) else {
         return Err(LineFault::NotAMove);
@@ -171,10 +173,11 @@ fn read_move(alloc: Global, text: &str) -> Result<Move, LineFault>
     read_words(alloc, word, arguments)
 }
 
-/// Reads one line of a script, given without its LF.
+/// Reads one line of a script, given without its LF. Bytes that are no text are refused before memory is asked for.
 pub fn read_line(alloc: Global, line: &[u8]) -> Result<Move, LineFault>
     ensures moved { IfOk result (λ moved. move_of line.now ≡ Some moved) }
     ensures refused { result ≡ Err LineFault.NotAMove → move_of line.now ≡ None }
+    ensures no_text { is_utf8 line.now ≡ false → result ≡ Err LineFault.NotAMove }
 {
     match str::from_utf8(line) {
         Ok(text) => read_move(alloc, text),

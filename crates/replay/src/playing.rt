@@ -87,7 +87,7 @@ fn play_pieces<S: Source, K: Sink>(
     source: &mut S,
     out: &mut K,
 ) -> Ended
-    requires room { length buf.old ≡ 65536 }
+    requires room { length buf.old ≡ PIECE_BYTES }
     requires world { player.old.world ≡ beginning }
     requires pending { player.old.pending.items ≡ [] }
     requires line { player.old.line ≡ 0 }

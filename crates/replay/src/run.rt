@@ -1,7 +1,7 @@
 ghost use Rattle.std.specs.Prelude.{◌≡◌, ◌≢◌, ◌⊎◌, ◌↔◌, ◌<◌, ◌≤◌, ◌++◌, [], List, ℕ, length, Some, true, false};
 ghost use Rattle.outside.specs.Faults.{Rose};
 ghost use Rattle.replay.specs.Script.{lines_of, run_over, most_bytes};
-ghost use Rattle.replay.specs.Table.{status_of, IsStatus, HasEnded, GoesOn, WasGiven, WasWritten, IsPlayable, IsPlayedTo, IsRefusedAt, IsCutOff, IsShortOf, IsFrontOf, run_to};
+ghost use Rattle.replay.specs.Table.{status_of, IsStatus, HasEnded, GoesOn, WasGiven, WasWritten, IsPlayable, IsPlayedTo, IsRefusedAt, IsCutOff, IsShortOf, IsLineBegun, IsFrontOf, run_to};
 
 use crate::playing::{Ending, play_source};
 use outside::{Sink, Source};
@@ -92,6 +92,10 @@ pub fn replay_run<S: Source, K: Sink>(
         → (length bytes ≡ most_bytes) × IsPlayedTo bytes result.line }
     ensures full { (bytes : List ℕ) → WasGiven (S.meaning script.old) (S.meaning script.new) bytes → length bytes ≡ most_bytes
         → (result.status ≡ 7) ⊎ (result.status ≡ 2) ⊎ (result.status ≡ 5) ⊎ (result.status ≡ 6) }
+
+    // 6: no clause says when it comes. All lines before `line` can be played, and 0 comes only where no line is whole.
+    ensures memory { result.status ≡ 6 → (bytes : List ℕ) → WasGiven (S.meaning script.old) (S.meaning script.new) bytes
+        → IsLineBegun bytes result.line }
 
     // What was written: with every status but 5 and 6, all that the lines taken whole print; with these, a front of
     // it, with all that the lines before `line` print; and with 5 not all that `line` prints.

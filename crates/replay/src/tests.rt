@@ -2,6 +2,8 @@ ghost use Rattle.outside_mem.specs.MemSource.{sure_source};
 ghost use Rattle.outside_mem.specs.MemSink.{sure_sink};
 
 use super::*;
+use crate::lines::LineFault;
+use crate::world::PlayEnd;
 use outside::{Gave, Sink, Source, Took};
 use outside_mem::{MemSink, MemSource, SureSink, SureSource};
 use std::alloc::{AllocError, Global};
@@ -136,5 +138,44 @@ fn faults_and_words_have_their_statuses(rt: HostRuntime) -> Result<(), Fail> {
     let end = run(alloc, &[], &mut source, &mut failing);
     assert_eq!(rt; end, ReplayEnd { status: 5, line: 6 });
     assert!(rt; failing.written().is_empty());
+    Ok(())
+}
+
+#[test]
+fn long_scripts_are_played(rt: HostRuntime) -> Result<(), Fail> {
+    let alloc = rt.alloc();
+    let text = String::from_utf8(vec![in alloc; b'x'; 5_000]?)?;
+    let mut script = format!(in alloc; "daemon 0\neditor 0 0 f \"{text}\"\n")?;
+    for _ in 0..100 {
+        script.push_str("type 0 0 0 \"y\"\n")?;
+    }
+    script.push_str("settle 0\nshow 0\n")?;
+    let (end, written) = replayed(alloc, script.as_bytes())?;
+    assert_eq!(rt;
+        end,
+        ReplayEnd {
+            status: 0,
+            line: 104
+        }
+    );
+    assert_eq!(rt; written.len(), 5_116);
+    assert!(rt; written.as_slice().starts_with(b"show 0 quiet \"yyyyy"));
+    Ok(())
+}
+
+#[test]
+fn faults_have_texts(rt: HostRuntime) -> Result<(), Fail> {
+    for (fault, text) in [
+        (LineFault::NotAMove, "the line is no move"),
+        (LineFault::Memory, "out of memory"),
+    ] {
+        assert_eq!(rt; format!(in rt.alloc(); "{fault}")?.as_str(), text);
+    }
+    for (end, text) in [
+        (PlayEnd::NotPossible, "the move is not possible"),
+        (PlayEnd::Memory, "out of memory"),
+    ] {
+        assert_eq!(rt; format!(in rt.alloc(); "{end}")?.as_str(), text);
+    }
     Ok(())
 }

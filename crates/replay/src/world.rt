@@ -14,7 +14,6 @@ const LONGEST_TEXT: usize = 4_194_304;
 
 use std::alloc::{AllocError, Global};
 use std::marker::Model;
-use std::mem;
 use thiserror::Error;
 use tt_base::{List, SharedPath, Text};
 
@@ -83,17 +82,14 @@ pub enum PlayEnd {
     Memory,
 }
 
-/// Makes the change in the text; a place past the text's end is its end. After want of memory the
-/// text is empty.
+/// Makes the change in the text, in place; a place past the text's end is its end. After want of
+/// memory the text is as before.
 fn edit_text(alloc: Global, text: &mut Text, typing: &Typing) -> Result<(), AllocError>
     ensures { OnOk result (text.new ≡ edited typing.now text.old) }
 {
-    let mut chars = mem::replace(text, Text::from_vec(Vec::new(alloc))).into_vec();
-    let start = typing.place.min(chars.len());
-    let end = typing.place.saturating_add(typing.gone).min(chars.len());
-    chars.splice(start..end, typing.text.as_slice().iter().copied())?;
-    *text = Text::from_vec(chars);
-    Ok(())
+    let start = typing.place.min(text.len());
+    let end = typing.place.saturating_add(typing.gone).min(text.len());
+    text.splice_text(alloc, start, end, &typing.text)
 }
 
 fn handle(alloc: Global, daemon: &mut Daemon, message: &Message) -> Result<(), AllocError>
@@ -182,17 +178,11 @@ fn show_word(editor: &Editor) -> &'static str
     }
 }
 
-fn write_text(alloc: Global, text: &Text) -> Result<String, AllocError>
-    ensures { IfOk result (λ written. string_bytes written ≡ encode_utf8_all text.now) }
-{
-    text.as_slice().iter().copied().collect(alloc)
-}
-
 fn write_show(alloc: Global, number: u64, editor: &Editor) -> Result<String, AllocError>
     ensures { IfOk result (λ line. string_bytes line ≡ show_line number editor.now) }
 {
     let word = show_word(editor);
-    let text = write_text(alloc, &editor.text)?;
+    let text = editor.text.to_string(alloc)?;
     format!(in alloc; "show {number} {word} \"{text}\"\n")
 }
 
@@ -210,6 +200,7 @@ impl World {
     fn start_daemon(&mut self, daemon: u64) -> Result<(), PlayEnd>
         ensures played { OnOk result (step self.old (Move.Daemon daemon) ≡ Some (quietly self.new)) }
         ensures not_possible { result ≡ Err PlayEnd.NotPossible → step self.old (Move.Daemon daemon) ≡ None }
+        ensures impossible { step self.old (Move.Daemon daemon) ≡ None → result ≡ Err PlayEnd.NotPossible }
         ensures as_before { result ≡ Err PlayEnd.NotPossible → self.new ≡ self.old }
     {
         if daemon != self.daemons.len() as u64 || daemon >= MOST_DAEMONS {
@@ -231,6 +222,7 @@ impl World {
     ) -> Result<(), PlayEnd>
         ensures played { OnOk result (step self.old (Move.Editor editor daemon path.now text.now) ≡ Some (quietly self.new)) }
         ensures not_possible { result ≡ Err PlayEnd.NotPossible → step self.old (Move.Editor editor daemon path.now text.now) ≡ None }
+        ensures impossible { step self.old (Move.Editor editor daemon path.now text.now) ≡ None → result ≡ Err PlayEnd.NotPossible }
         ensures as_before { result ≡ Err PlayEnd.NotPossible → self.new ≡ self.old }
     {
         if editor != self.editors.len() as u64 || editor >= MOST_EDITORS {
@@ -256,6 +248,7 @@ impl World {
     ) -> Result<(), PlayEnd>
         ensures played { OnOk result (step self.old (Move.Typed editor place gone text.now) ≡ Some (quietly self.new)) }
         ensures not_possible { result ≡ Err PlayEnd.NotPossible → step self.old (Move.Typed editor place gone text.now) ≡ None }
+        ensures impossible { step self.old (Move.Typed editor place gone text.now) ≡ None → result ≡ Err PlayEnd.NotPossible }
         ensures as_before { result ≡ Err PlayEnd.NotPossible → self.new ≡ self.old }
     {
         if editor >= self.editors.len() as u64 {
@@ -278,6 +271,7 @@ impl World {
     fn settle(&mut self, alloc: Global, editor: u64) -> Result<(), PlayEnd>
         ensures played { OnOk result (step self.old (Move.Settle editor) ≡ Some (quietly self.new)) }
         ensures not_possible { result ≡ Err PlayEnd.NotPossible → step self.old (Move.Settle editor) ≡ None }
+        ensures impossible { step self.old (Move.Settle editor) ≡ None → result ≡ Err PlayEnd.NotPossible }
         ensures as_before { result ≡ Err PlayEnd.NotPossible → self.new ≡ self.old }
     {
         if editor >= self.editors.len() as u64 {
@@ -296,6 +290,7 @@ impl World {
     fn show(&self, alloc: Global, editor: u64) -> Result<String, PlayEnd>
         ensures played { IfOk result (λ printed. step self.now (Move.Show editor) ≡ Some (record { world = self.now; printed = string_bytes printed })) }
         ensures not_possible { result ≡ Err PlayEnd.NotPossible → step self.now (Move.Show editor) ≡ None }
+        ensures impossible { step self.now (Move.Show editor) ≡ None → result ≡ Err PlayEnd.NotPossible }
     {
         if editor >= self.editors.len() as u64 {
             return Err(PlayEnd::NotPossible);
@@ -304,10 +299,12 @@ impl World {
         Ok(line)
     }
 
-    /// Plays one move, and gives the lines that it prints, each with its LF.
+    /// Plays one move, and gives the lines that it prints, each with its LF. Whether it is possible is judged before
+    /// memory is asked for.
     pub fn play(&mut self, alloc: Global, moved: &Move) -> Result<String, PlayEnd>
         ensures played { IfOk result (λ printed. step self.old moved.now ≡ Some (record { world = self.new; printed = string_bytes printed })) }
         ensures not_possible { result ≡ Err PlayEnd.NotPossible → step self.old moved.now ≡ None }
+        ensures impossible { step self.old moved.now ≡ None → result ≡ Err PlayEnd.NotPossible }
         ensures as_before { result ≡ Err PlayEnd.NotPossible → self.new ≡ self.old }
     {
         match moved {

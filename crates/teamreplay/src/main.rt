@@ -1,9 +1,11 @@
 //! The program `teamreplay`: it plays the script on its standard input, and prints what is seen.
 #![tactic(auto)]
 
+mod ends;
 mod standard;
 
-use replay::{ReplayEnd, replay_run};
+use ends::{end_unread, tell_end};
+use replay::replay_run;
 use standard::{StandardInput, StandardOutput};
 use std::process::ExitCode;
 use std::rt::Env;
@@ -18,18 +20,15 @@ fn words_of(rt: &(impl Env + AllocGlobal)) -> io::Result<Vec<String>> {
     Ok(words)
 }
 
-fn main(rt: HostRuntime) -> io::Result<ExitCode> {
+fn main(rt: HostRuntime) -> ExitCode {
+    let mut script = StandardInput::new(rt.stdin());
+    let mut out = StandardOutput::new(rt.stdout());
     let end = match words_of(&rt) {
-        Ok(words) => replay_run(
-            rt.alloc(),
-            words.as_slice(),
-            &mut StandardInput::new(rt.stdin()),
-            &mut StandardOutput::new(rt.stdout()),
-        ),
-        Err(_) => ReplayEnd { status: 1, line: 0 },
+        Ok(words) => replay_run(rt.alloc(), words.as_slice(), &mut script, &mut out),
+        Err(error) => end_unread(&error),
     };
-    if end.status != 0 {
-        eprintln!(rt; "teamreplay: status {} at line {}", end.status, end.line)?;
-    }
-    Ok(ExitCode::from(end.status))
+    tell_end(&rt, end)
 }
+
+#[cfg(test)]
+mod tests;

@@ -1,5 +1,9 @@
-//! The standard streams as a source and a sink. They tell no content: what a stream gives or takes
-//! is the system's business.
+//! The standard streams as a source and a sink.
+//!
+//! They tell no content. What each call did to the reader or the writer below is told by a clause of its own, `below`,
+//! for every reader and writer.
+
+ghost use Rattle.std.specs.Prelude.{◌≡◌, false};
 
 use outside::{Gave, Sink, Source, Took};
 use std::alloc::Global;
@@ -8,14 +12,16 @@ use std::io::{Read, Write};
 /// A source over a reader of the system. It counts the reads that failed.
 #[derive(Drop)]
 pub struct StandardInput<R> {
-    reader: R,
-    ended: bool,
-    faults: u64,
+    pub reader: R,
+    pub ended: bool,
+    pub faults: u64,
 }
 
 impl<R: Read> StandardInput<R> {
-    /// A source that has ended nothing and failed in nothing.
-    pub fn new(reader: R) -> StandardInput<R> {
+    /// A source that has not ended, and none of whose reads has failed.
+    pub fn new(reader: R) -> StandardInput<R>
+        ensures { result ≡ record { reader = reader; ended = false; faults = 0 } }
+    {
         StandardInput {
             reader,
             ended: false,
@@ -25,11 +31,18 @@ impl<R: Read> StandardInput<R> {
 }
 
 impl<R: Read> Source for StandardInput<R> {
-    ghost use Rattle.std.specs.Prelude.{None};
+    ghost use Rattle.std.specs.Prelude.{◌<◌, length};
+    ghost use Rattle.outside.specs.Takes.{Takes};
+    ghost use Rattle.teamreplay.specs.Standard.{input_meaning};
+    ghost use Rattle.teamreplay.specs.Below.{ReadBelow};
 
-    ghost meaning = { λ s. record { left = None; ended = s.ended; faults = s.faults } };
+    ghost meaning = { input_meaning };
 
-    fn read(&mut self, buf: &mut [u8]) -> Took {
+    fn read(&mut self, buf: &mut [u8]) -> Took
+        requires { 0 < length buf.old }
+        ensures takes { Takes (input_meaning self.old) (input_meaning self.new) buf.new result }
+        ensures below { ReadBelow (R.remaining self.old.reader) (R.remaining self.new.reader) buf.new result }
+    {
         match self.reader.read(buf) {
             Ok(0) => {
                 self.ended = true;
@@ -47,23 +60,32 @@ impl<R: Read> Source for StandardInput<R> {
 /// A sink over a writer of the system. It counts the writes that failed.
 #[derive(Drop)]
 pub struct StandardOutput<W> {
-    writer: W,
-    faults: u64,
+    pub writer: W,
+    pub faults: u64,
 }
 
 impl<W: Write> StandardOutput<W> {
-    /// A sink that has failed in nothing.
-    pub fn new(writer: W) -> StandardOutput<W> {
+    /// A sink none of whose writes has failed.
+    pub fn new(writer: W) -> StandardOutput<W>
+        ensures { result ≡ record { writer = writer; faults = 0 } }
+    {
         StandardOutput { writer, faults: 0 }
     }
 }
 
 impl<W: Write> Sink for StandardOutput<W> {
-    ghost use Rattle.std.specs.Prelude.{None};
+    ghost use Rattle.std.specs.Prelude.{◌<◌, length};
+    ghost use Rattle.outside.specs.Gives.{Gives};
+    ghost use Rattle.teamreplay.specs.Standard.{output_meaning};
+    ghost use Rattle.teamreplay.specs.Below.{WrittenBelow};
 
-    ghost meaning = { λ s. record { written = None; faults = s.faults } };
+    ghost meaning = { output_meaning };
 
-    fn write(&mut self, _alloc: Global, piece: &[u8]) -> Gave {
+    fn write(&mut self, _alloc: Global, piece: &[u8]) -> Gave
+        requires { 0 < length piece.now }
+        ensures gives { Gives (output_meaning self.old) (output_meaning self.new) piece.now result }
+        ensures below { WrittenBelow (W.contents self.old.writer) (W.contents self.new.writer) piece.now result }
+    {
         match self.writer.write(piece) {
             Ok(0) | Err(_) => {
                 self.faults = self.faults.saturating_add(1);

@@ -1,5 +1,5 @@
 use Rattle.std.proofs.Common.{ap, ◌∙◌, refl}
-use Rattle.outside.specs.Told.{with_back}
+use Rattle.std.specs.Io.KnownBytes.{append_known}
 use Rattle.replay.specs.Machine.{step}
 use Rattle.replay.specs.Grammar.{◌>>=◌}
 use Rattle.replay.proofs.player.play_line.Goals as goal
@@ -14,6 +14,6 @@ returns-in-Whole g c =
         _,
         ap (λ moved. moved >>= step world) c.in-Ok.ensures.moved ∙ c.in-Ok-play.ensures.played,
         refl,
-        c.in-Whole.ensures.so ∙ ap (with_back (g.K.Sink.meaning c.args.out.now).written) c.as_bytes.ensures.value,
+        c.in-Whole.ensures.so ∙ ap (append_known (g.K.Sink.meaning c.args.out.now).written) c.as_bytes.ensures.value,
       );
     }

@@ -13,7 +13,8 @@ loop-line-preserved g c =
 pub returns-in_default-end_line : goal.returns-in_default-end_line
 returns-in_default-end_line g c =
     let ends : EndsLine c.loop-line.rest.now c.in-Some.line.now c.in-Some.after.now = record { cut = c.in-Some.ensures.0; inner = c.in-Some.ensures.1 } in
-    let Plays : List ℕ → Type 0 = λ line. PlaysLine c.loop-line.player.world c.end_line.new.player.world (g.K.Sink.meaning c.loop-line.out) (g.K.Sink.meaning c.end_line.new.out) line c.end_line.result in
+    let Plays : List ℕ → Type 0 =
+    λ line. PlaysLine c.loop-line.player.world c.end_line.new.player.world (g.K.Sink.meaning c.loop-line.out) (g.K.Sink.meaning c.end_line.new.out) line c.end_line.result in
     piece_ended _ _ _ _ _ _ _ _ c.loop-line.invariant ends _ _ _ c.in_default-end_line.not-Whole (subst Plays c.in-Ok.ensures.items c.end_line.ensures.plays) c.end_line.ensures.line
 
 pub returns-in-Ok-extend_from_slice : goal.returns-in-Ok-extend_from_slice

@@ -11,4 +11,5 @@ loop-taken-preserved g c =
 
 pub returns-in_default : goal.returns-in_default
 returns-in_default g c =
-    rw c.stopped_at.ensures (piece_stops _ _ _ _ _ _ _ c.loop-taken.invariant c.read_piece.new.buf c.in-Bytes.count c.in-Bytes.ensures.takes _ _ _ c.in_default.not-Whole c.play_piece.ensures (omega (arith, c.in-Bytes.ensures.within)))
+    rw c.stopped_at.ensures (piece_stops _ _ _ _ _ _ _ c.loop-taken.invariant c.read_piece.new.buf c.in-Bytes.count c.in-Bytes.ensures.takes _ _ _ c.in_default.not-Whole
+    c.play_piece.ensures (omega (arith, c.in-Bytes.ensures.within)))

@@ -1,7 +1,9 @@
 -- With words nothing is given or written; else each status says what its ending says.
 use Rattle.std.proofs.Common.{◌≡◌, length, true, false, inl, inr, sym, ap, ◌∙◌, arith}
 use Rattle.replay.specs.Script.{run_over, most_bytes}
-use Rattle.replay.proofs.Statuses.{nothing_given, nothing_written, refused_line, stuck_is_refused, failed_after, too_long_after, too_long_bytes, full_is_too_long, whole_output, short_output, sink_failed_short, memory_short, playable_is_played, bytes_given, bytes_written, bytes_are_few, room_was_left, source_goes_on, source_is_kept, sink_is_kept, given_at_once, written_at_once}
+use Rattle.replay.proofs.Statuses.{nothing_given, nothing_written, refused_line, stuck_is_refused, failed_after, too_long_after, too_long_bytes, full_is_too_long}
+use Rattle.replay.proofs.Statuses.{whole_output, short_output, sink_failed_short, memory_short, memory_line, playable_is_played, bytes_given, bytes_written}
+use Rattle.replay.proofs.Statuses.{bytes_are_few, room_was_left, source_goes_on, source_is_kept, sink_is_kept, given_at_once, written_at_once}
 use Rattle.replay.proofs.run.replay_run.Goals as goal
 
 pub returns-then-not-is_empty-clause-refuses : goal.returns-then-not-is_empty-clause-refuses
@@ -49,6 +51,9 @@ returns-clause-short g c =
       | inr six ↦ memory_short _ _ _ _ _ ends six bytes written given told
     ])
 
+pub returns-clause-memory : goal.returns-clause-memory
+returns-clause-memory g c = rw c.status_of.ensures (memory_line _ _ _ _ _ c.play_source-ended.ensures)
+
 pub returns-clause-cut : goal.returns-clause-cut
 returns-clause-cut g c =
     let ends = c.play_source-ended.ensures in
@@ -88,4 +93,5 @@ pub returns-clause-sink_kept : goal.returns-clause-sink_kept
 returns-clause-sink_kept g c = rw c.status_of.ensures (sink_is_kept _ _ _ _ _ c.play_source-ended.ensures)
 
 pub returns-clause-complete : goal.returns-clause-complete
-returns-clause-complete g c = rw c.status_of.ensures (λ all told plays small _ sure_source sure_sink. playable_is_played _ _ _ _ _ c.play_source-ended.ensures all told plays small sure_source sure_sink)
+returns-clause-complete g c = rw c.status_of.ensures (λ all told plays small _ sure_source sure_sink. playable_is_played _ _ _ _ _ c.play_source-ended.ensures all told
+    plays small sure_source sure_sink)

@@ -8,7 +8,9 @@ use Rattle.replay.proofs.world.write_show.Goals as goal
 regroup : (a b c d e f g h i : List ℕ) → a ++ b ++ c ++ d ++ e ++ (f ++ g ++ h) ++ i ≡ a ++ (b ++ (c ++ (d ++ (e ++ (f ++ (g ++ (h ++ i)))))))
 regroup a b c d e f g h i = simp append_assoc
 
-parts : (number word word' text text' : List ℕ) → word ≡ word' → text ≡ text' → codes "show " ++ (number ++ (codes " " ++ (word ++ (codes " \"" ++ (text ++ codes "\"\n"))))) ≡ codes "show " ++ number ++ codes " " ++ word' ++ codes " " ++ (34 ∷ (text' ++ 34 ∷ [])) ++ codes "\n"
+parts : (number word word' text text' : List ℕ) → word ≡ word' → text ≡ text'
+    → codes "show " ++ (number ++ (codes " " ++ (word ++ (codes " \"" ++ (text ++ codes "\"\n")))))
+    ≡ codes "show " ++ number ++ codes " " ++ word' ++ codes " " ++ (34 ∷ (text' ++ 34 ∷ [])) ++ codes "\n"
 parts number word word' text text' same_word same_text =
     rw (same_word, same_text) (sym (regroup (codes "show ") number (codes " ") word' (codes " ") (codes "\"") text' (codes "\"") (codes "\n")))
 
