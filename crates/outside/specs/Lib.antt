@@ -1,5 +1,11 @@
 pub mod Faults
+pub mod Calls
 pub mod SourceMeaning
 pub mod SinkMeaning
 pub mod Takes
 pub mod Gives
+pub mod Plan
+pub mod Images
+pub mod DiskMeaning
+pub mod DiskCalls
+pub mod Moments

@@ -11,8 +11,8 @@ use Rattle.std.proofs.lemmas.Str.Parse.{digit_at}
 use Rattle.std.proofs.lemmas.Str.{IsUtf8-from_is_utf8, encodes-chars, scalars-chars}
 use Rattle.hex.specs.Hex.{encode_with, encode_lower, lower_digits, IsBytes}
 use Rattle.hex.proofs.HexLemmas.{length-encode_with, decode_of-encode_lower}
-use Rattle.replay_script.specs.declared.modes.Mode.{Mode}
-use Rattle.replay_script.specs.declared.modes.Mode.TheVariants.{Lost, Kept, Torn}
+use Rattle.outside.specs.declared.modes.Mode.{Mode}
+use Rattle.outside.specs.declared.modes.Mode.TheVariants.{Lost, Kept, Torn}
 use Rattle.tt_base.specs.declared.contents.Content.{Content}
 use Rattle.tt_base.specs.declared.contents.Content.TheVariants.{Absent, Bytes, Larger}
 use Rattle.tt_base.specs.Path.{path_fault}

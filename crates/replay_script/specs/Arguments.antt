@@ -3,7 +3,7 @@ use Rattle.std.specs.Prelude.{ℕ, List, [], ◌∷◌, ◌++◌, Option, None, 
 use Rattle.std.specs.Fmt.{decimal}
 use Rattle.std.specs.Option.{option_map}
 use Rattle.hex.specs.Hex.{encode_lower}
-use Rattle.replay_script.specs.declared.modes.Mode.{Mode}
+use Rattle.outside.specs.declared.modes.Mode.{Mode}
 use Rattle.tt_base.specs.declared.contents.Content.{Content}
 use Rattle.replay_script.specs.Contents.{content_of, content_text, mode_of, mode_text, speaker_of, speaker_text}
 use Rattle.replay_script.specs.Cut.{cut}

@@ -4,8 +4,8 @@ use Rattle.std.specs.List.{starts_with}
 use Rattle.std.specs.Option.{option_map}
 use Rattle.std.specs.Str.{bytes_eq, chars, is_utf8}
 use Rattle.hex.specs.Hex.{encode_lower}
-use Rattle.replay_script.specs.declared.modes.Mode.{Mode}
-use Rattle.replay_script.specs.declared.modes.Mode.TheVariants.{Lost, Kept, Torn}
+use Rattle.outside.specs.declared.modes.Mode.{Mode}
+use Rattle.outside.specs.declared.modes.Mode.TheVariants.{Lost, Kept, Torn}
 use Rattle.tt_base.specs.declared.contents.Content.{Content}
 use Rattle.tt_base.specs.declared.contents.Content.TheVariants.{Absent, Bytes, Larger}
 use Rattle.replay_script.specs.Numbers.{bytes_of}

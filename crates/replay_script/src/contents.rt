@@ -5,9 +5,9 @@ ghost use Rattle.replay_script.specs.Contents as spec;
 ghost use Rattle.replay_script.specs.Reads.{Reads};
 
 use crate::faults::LineFault;
-use crate::modes::Mode;
 use crate::numbers::{is_hexadecimal, read_hexadecimal};
 use crate::quotes::{is_text, read_text};
+use outside::Mode;
 use std::alloc::Global;
 use tt_base::Content;
 

@@ -8,7 +8,6 @@ mod escapes;
 mod faults;
 pub mod laws;
 mod lines;
-mod modes;
 mod moves;
 mod numbers;
 mod paths;
@@ -19,8 +18,8 @@ mod written_lines;
 
 pub use faults::LineFault;
 pub use lines::read_line;
-pub use modes::Mode;
 pub use moves::Move;
+pub use outside::Mode;
 pub use written::{write_path, write_text};
 pub use written_lines::write_line;
 

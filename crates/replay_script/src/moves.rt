@@ -1,4 +1,4 @@
-use crate::modes::Mode;
+use outside::Mode;
 use tt_base::{Blob, Content, SharedPath, Text};
 
 /// One move of a script, with its arguments in the order of the line that asks for it.

@@ -11,8 +11,8 @@ ghost use Rattle.replay_script.specs.Quotes.{escaped, quoted};
 
 use crate::contents::Speaker;
 use crate::escapes::push_escaped;
-use crate::modes::Mode;
 use crate::paths::is_bare;
+use outside::Mode;
 use std::alloc::{AllocError, Global};
 use std::str;
 use tt_base::{Blob, Content, SharedPath, Text};

@@ -7,12 +7,12 @@ ghost use Rattle.replay_script.specs.Lines.{line_of};
 ghost use Rattle.replay_script.specs.Words.{name_of};
 
 use crate::contents::Speaker;
-use crate::modes::Mode;
 use crate::moves::Move;
 use crate::words::Word;
 use crate::written::{
     push_content, push_hexadecimal, push_mode, push_number, push_path, push_speaker, push_text,
 };
+use outside::Mode;
 use std::alloc::{AllocError, Global};
 use tt_base::{Blob, Content, SharedPath, Text};
 
