@@ -1,1 +1,4 @@
+pub mod ImageLemmas
+pub mod MadeImages
+pub mod Moments
 pub mod ToldLemmas
