@@ -1,3 +1,4 @@
 mod PathRows
 pub mod IdOrders
 pub mod TextLemmas
+pub mod ElementLemmas

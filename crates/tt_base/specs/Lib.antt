@@ -1,3 +1,4 @@
 pub mod Answers
 pub mod Path
 pub mod Ids
+pub mod Elements

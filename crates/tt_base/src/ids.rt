@@ -1,6 +1,6 @@
 //! What is named in a history of changes: changes, the daemons that made them, and what these made.
 
-ghost use Rattle.std.specs.Prelude.{◌≡◌};
+ghost use Rattle.std.specs.Prelude.{◌≡◌, ◌↔◌, IsTrue};
 ghost use Rattle.std.specs.Ordering.{is_lt};
 ghost use Rattle.tt_base.specs.Ids.{name_cmp, id_cmp};
 
@@ -43,5 +43,11 @@ impl ElemId {
         ensures { result ≡ is_lt (id_cmp self.now other.now) }
     {
         self.cmp(other).is_lt()
+    }
+    /// Whether the two are one id.
+    pub fn equals(&self, other: &ElemId) -> bool
+        ensures { IsTrue result ↔ (self.now ≡ other.now) }
+    {
+        self.cmp(other).is_eq()
     }
 }

@@ -264,3 +264,29 @@ fn a_uri_is_any_text(rt: HostRuntime) -> Result<(), Fail> {
     assert_eq!(rt; uri.as_str(), "file:///work/a b");
     Ok(())
 }
+
+#[test]
+fn ids_are_one_where_all_fields_are(rt: HostRuntime) -> Result<(), Fail> {
+    let id = ElemId {
+        depth: 3,
+        actor: Actor([1; 16]),
+        name: Name([2; 32]),
+        index: 4,
+    };
+    assert!(rt; id.equals(&id));
+    assert!(rt; !id.equals(&ElemId { depth: 4, ..id }));
+    assert!(rt;
+        !id.equals(&ElemId {
+            actor: Actor([2; 16]),
+            ..id
+        })
+    );
+    assert!(rt;
+        !id.equals(&ElemId {
+            name: Name([1; 32]),
+            ..id
+        })
+    );
+    assert!(rt; !id.equals(&ElemId { index: 3, ..id }));
+    Ok(())
+}
