@@ -1,4 +1,4 @@
-ghost use Rattle.std.specs.Prelude.{◌≡◌, ◌<◌, ◌==◌, [], ◌∷◌, ◌++◌, length, slice_get, Some, IfOk, OnOk, OnErr};
+ghost use Rattle.std.specs.Prelude.{◌≡◌, ◌<◌, ◌==◌, [], ◌∷◌, ◌++◌, length, slice_get, Some, IsOkAnd, OnOk, OnErr};
 
 use std::alloc::{AllocError, Global};
 use std::marker::Model;
@@ -24,9 +24,9 @@ impl<T> Model for List<T> {
 }
 
 impl<T> List<T> {
-    /// The list with no items.
+    /// The list with no items. It takes no memory, so none can be wanting.
     pub fn empty(alloc: Global) -> Result<List<T>, AllocError>
-        ensures { IfOk result (λ list. list ≡ []) }
+        ensures { IsOkAnd result (λ list. list ≡ []) }
     {
         Ok(List {
             items: Vec::new(alloc),

@@ -12,8 +12,11 @@ use std::alloc::{AllocError, Global};
 /// The pages from one index up to another give way to items.
 #[derive(Drop)]
 pub(crate) struct Patch<T> {
+    /// The first page that gives way.
     pub from: usize,
+    /// The first page behind those.
     pub to: usize,
+    /// What stands in their place.
     pub items: Vec<T>,
 }
 

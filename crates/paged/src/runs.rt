@@ -1,5 +1,5 @@
 //! Reading a list from a place on, run by run.
-ghost use Rattle.std.specs.Prelude.{◌≡◌, ◌≤◌, ◌<◌, ◌++◌, [], length, take, drop, slice_index_or, OnOk};
+ghost use Rattle.std.specs.Prelude.{◌≡◌, ◌≤◌, ◌<◌, ◌++◌, [], length, take, drop, slice_index_or, OnOk, OnErr};
 ghost use Rattle.std.specs.List.{All};
 ghost use Rattle.paged.specs.Pages.{flat};
 
@@ -79,12 +79,16 @@ impl<'a, T> Runs<'a, T> {
 }
 
 impl<'a, T: Copy> Runs<'a, T> {
-    /// Copies the next items behind those of a vector, and passes over them.
+    /// Copies the next items behind those of a vector, and passes over them. After want of memory the
+    /// vector has its items as before, and no item is passed over.
     pub fn copy_to(&mut self, items: &mut Vec<T>, count: usize) -> Result<(), AllocError>
         requires { count ≤ length self.old }
         ensures copied { OnOk result (items.new.items ≡ items.old.items ++ take count self.old) }
         ensures rest { OnOk result (self.new ≡ drop count self.old) }
+        ensures not_copied { OnErr result (items.new.items ≡ items.old.items) }
+        ensures not_passed { OnErr result (self.new ≡ self.old) }
     {
+        items.reserve(count)?;
         let mut left = count;
         while left > 0 {
             let run = self.run();

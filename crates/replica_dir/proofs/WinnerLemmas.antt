@@ -1,5 +1,6 @@
 -- Winners: that of a path is the last of its ids that no remove names, and there is no second.
 use Rattle.std.proofs.Common.{◌≡◌, ℕ, Bool, true, false, not, ◌&&◌, List, [], Option, Some, None, refl, sym, ap, ◌∙◌, subst, reverse}
+use Rattle.std.specs.Prelude.{Result, Ok, Err, IfOk, IsOkAnd}
 use Rattle.std.specs.declared.cmp.Ordering.{Ordering}
 use Rattle.std.specs.declared.cmp.Ordering.TheVariants.{Less, Equal, Greater}
 use Rattle.std.specs.Ordering.{is_lt, ordering_reverse}
@@ -113,3 +114,8 @@ found_rising d ids list sorted kept =
 pub none_rising : (list : List ElemId) → list ≡ [] → IsStrictlySortedBy id_cmp list
 unfolding IsStrictlySortedBy
 none_rising list none = subst (IsStrictlySortedBy id_cmp) (sym {A = List ElemId} none) tt
+
+-- what is surely a value of one kind is one of a wider kind where it is a value
+pub IfOk-from_IsOkAnd : {T F : Type 0} (r : Result T F) (P Q : T → Type 0) → ((x : T) → P x → Q x) → IsOkAnd r P → IfOk r Q
+IfOk-from_IsOkAnd (Ok x) P Q weaker is = weaker x is
+IfOk-from_IsOkAnd (Err fault) P Q weaker none = tt

@@ -2,40 +2,54 @@
 -- other.
 use Rattle.std.proofs.Common.{◌≡◌, ℕ, zero, suc, ◌+◌, ◌<◌, ◌≤◌, Bool, true, false, List, [], ◌∷◌, ◌++◌, length}
 use Rattle.std.proofs.Common.{take, drop, Option, Some, None, nat_le, refl, sym, ap, ◌∙◌, ◌⊎◌, inl, inr, arith, append_assoc, length-append}
-use Rattle.std.specs.Prelude.{option_map, option_and_then, if◌then◌else◌}
+use Rattle.std.specs.Prelude.{option_map, option_and_then, if◌then◌else◌, cond}
 use Rattle.std.proofs.lemmas.List.{take_at, drop_at, take-append-drop, length-take-le}
+use Rattle.std.proofs.lemmas.List.Sums.{sum_by-cons}
 use Rattle.std.proofs.lemmas.Bool.{le-leb, leb-true}
 use Rattle.delta.specs.Cells.{one_if}
 use Rattle.tt_base.specs.declared.edits.Position.{Position}
 use Rattle.text_position.specs.Places.{is_line_end, line_ends, IsWholeLines, IsPlace, line_start, line_length}
 use Rattle.text_position.specs.Places.{offset_in_line, offset_at, position_behind_char, position_behind, first_position, position_at}
 
+-- the lines that end in a text, counted character by character
+abbrev pub ends : List ℕ → ℕ
+ends [] = 0
+ends (ch ∷ text) = one_if (is_line_end ch) + ends text
+
+pub line_ends-ends : (text : List ℕ) → line_ends text ≡ ends text
+line_ends-ends [] = refl
+line_ends-ends (ch ∷ text) =
+    sum_by-cons (λ c. cond (is_line_end c) 1 0) ch text ∙ ap (λ n. cond (is_line_end ch) 1 0 + n) (line_ends-ends text) ∙ ap (λ n. n + ends text) (one (is_line_end ch)) where
+      one : (b : Bool) → cond b 1 0 ≡ one_if b
+      one true = refl
+      one false = refl
+
 whole_behind : (ch : ℕ) (lines : List ℕ) → IsWholeLines (ch ∷ lines) → IsWholeLines lines
 whole_behind ch [] h = tt
 whole_behind ch (next ∷ lines) h = h
 
-some_line_end : (ch : ℕ) (lines : List ℕ) → IsWholeLines (ch ∷ lines) → 0 < line_ends (ch ∷ lines)
+some_line_end : (ch : ℕ) (lines : List ℕ) → IsWholeLines (ch ∷ lines) → 0 < ends (ch ∷ lines)
 some_line_end ch [] h = by_end (is_line_end ch) h where
   by_end : (b : Bool) → b ≡ true → 0 < one_if b + 0
   by_end true h = omega arith
   by_end false h = absurd (cc)
 some_line_end ch (next ∷ lines) h = omega (arith, some_line_end next lines h)
 
-pub line_start-lines : (lines rest : List ℕ) (n : ℕ) → IsWholeLines lines → line_ends lines ≡ n → line_start (lines ++ rest) n ≡ Some (length lines)
+pub line_start-lines : (lines rest : List ℕ) (n : ℕ) → IsWholeLines lines → ends lines ≡ n → line_start (lines ++ rest) n ≡ Some (length lines)
 line_start-lines [] rest zero h e = refl
 line_start-lines [] rest (suc n) h e = absurd (omega (arith, e))
 line_start-lines (ch ∷ lines) rest zero h e = absurd (omega (arith, e, some_line_end ch lines h))
 line_start-lines (ch ∷ lines) rest (suc n) h e =
     by_end (is_line_end ch) e (λ (m : ℕ). line_start-lines lines rest m (whole_behind ch lines h)) where
-      by_end : (b : Bool) → one_if b + line_ends lines ≡ suc n → ((m : ℕ) → line_ends lines ≡ m → line_start (lines ++ rest) m ≡ Some (length lines))
+      by_end : (b : Bool) → one_if b + ends lines ≡ suc n → ((m : ℕ) → ends lines ≡ m → line_start (lines ++ rest) m ≡ Some (length lines))
           → option_map suc (line_start (lines ++ rest) (if b then n else suc n)) ≡ Some (suc (length lines))
       by_end true e found = ap (option_map suc) (found n (omega (arith, e)))
       by_end false e found = ap (option_map suc) (found (suc n) (omega (arith, e)))
 
-pub line_length-before : (before behind : List ℕ) → line_ends before ≡ 0 → length before ≤ line_length (before ++ behind)
+pub line_length-before : (before behind : List ℕ) → ends before ≡ 0 → length before ≤ line_length (before ++ behind)
 line_length-before [] behind e = omega arith
 line_length-before (ch ∷ before) behind e = by_end (is_line_end ch) e (line_length-before before behind) where
-  by_end : (b : Bool) → one_if b + line_ends before ≡ 0 → (line_ends before ≡ 0 → length before ≤ line_length (before ++ behind))
+  by_end : (b : Bool) → one_if b + ends before ≡ 0 → (ends before ≡ 0 → length before ≤ line_length (before ++ behind))
       → suc (length before) ≤ (if b then 0 else suc (line_length (before ++ behind)))
   by_end true e fits = absurd (omega (arith, e))
   by_end false e fits = omega (arith, fits (omega (arith, e)))
@@ -47,11 +61,11 @@ line_length-le (ch ∷ text) = by_end (is_line_end ch) (line_length-le text) whe
   by_end true fits = omega arith
   by_end false fits = omega arith
 
-pub one_line-take : (text : List ℕ) (n : ℕ) → n ≤ line_length text → line_ends (take n text) ≡ 0
+pub one_line-take : (text : List ℕ) (n : ℕ) → n ≤ line_length text → ends (take n text) ≡ 0
 one_line-take text zero h = refl
 one_line-take [] (suc n) h = refl
 one_line-take (ch ∷ text) (suc n) h = by_end (is_line_end ch) h (one_line-take text n) where
-  by_end : (b : Bool) → suc n ≤ (if b then 0 else suc (line_length text)) → (n ≤ line_length text → line_ends (take n text) ≡ 0) → one_if b + line_ends (take n text) ≡ 0
+  by_end : (b : Bool) → suc n ≤ (if b then 0 else suc (line_length text)) → (n ≤ line_length text → ends (take n text) ≡ 0) → one_if b + ends (take n text) ≡ 0
   by_end true h none = absurd (omega (arith, h))
   by_end false h none = omega (arith, none (omega (arith, h)))
 
@@ -61,10 +75,10 @@ pub record IsLineStart (text : List ℕ) (n start : ℕ) : Type 0 where
   pub rest : List ℕ
   pub cut : text ≡ lines ++ rest
   pub whole : IsWholeLines lines
-  pub line : line_ends lines ≡ n
+  pub line : ends lines ≡ n
   pub start_is : length lines ≡ start
 
-more_whole : (ch : ℕ) (lines : List ℕ) → IsWholeLines lines → (is_line_end ch ≡ true) ⊎ (0 < line_ends lines) → IsWholeLines (ch ∷ lines)
+more_whole : (ch : ℕ) (lines : List ℕ) → IsWholeLines lines → (is_line_end ch ≡ true) ⊎ (0 < ends lines) → IsWholeLines (ch ∷ lines)
 more_whole ch [] h (inl e) = e
 more_whole ch [] h (inr e) = absurd (omega (arith, e))
 more_whole ch (next ∷ lines) h some = h
@@ -83,7 +97,7 @@ line_start-is (ch ∷ text) (suc n) start e = by_end (is_line_end ch) refl e (li
     rest = l.rest;
     cut = ap (λ t. ch ∷ t) l.cut;
     whole = by_some some;
-    line = ap (λ c. one_if c + line_ends l.lines) is ∙ ap (λ k. one_if b + k) l.line ∙ sum;
+    line = ap (λ c. one_if c + ends l.lines) is ∙ ap (λ k. one_if b + k) l.line ∙ sum;
     start_is = ap suc l.start_is ∙ last;
   } where
     by_some : (is_line_end ch ≡ true) ⊎ (0 < m) → IsWholeLines (ch ∷ l.lines)
@@ -103,11 +117,11 @@ line_start-is (ch ∷ text) (suc n) start e = by_end (is_line_end ch) refl e (li
 pub offset_at-place : (text : List ℕ) (p : Position) (offset : ℕ) → IsPlace text p offset → offset_at text p ≡ Some offset
 offset_at-place text p offset h =
     let start : line_start text p.line ≡ Some (length h.lines) =
-    ap (λ t. line_start t p.line) h.cut ∙ line_start-lines h.lines (h.before ++ h.behind) p.line h.whole h.line in
+    ap (λ t. line_start t p.line) h.cut ∙ line_start-lines h.lines (h.before ++ h.behind) p.line h.whole (sym (line_ends-ends h.lines) ∙ h.line) in
     let left : drop (length h.lines) text ≡ h.before ++ h.behind =
     ap (drop (length h.lines)) h.cut ∙ drop_at h.lines (h.before ++ h.behind) (length h.lines) refl in
     let long : p.character ≤ line_length (drop (length h.lines) text) =
-    omega (arith, h.character, ap line_length left, line_length-before h.before h.behind h.one_line) in
+    omega (arith, h.character, ap line_length left, line_length-before h.before h.behind (sym (line_ends-ends h.before) ∙ h.one_line)) in
     let sum : length h.lines + p.character ≡ offset = omega (arith, h.character, h.offset_is) in
     ap (option_and_then (offset_in_line text p.character)) start
     ∙ ap (λ b. if b then Some (length h.lines + p.character) else None) (le-leb p.character (line_length (drop (length h.lines) text)) long)
@@ -128,8 +142,8 @@ place-offset_at text p offset e = by_start (line_start text p.line) refl e where
         behind = drop p.character l.rest;
         cut = l.cut ∙ ap (λ t. l.lines ++ t) (sym (take-append-drop p.character l.rest));
         whole = l.whole;
-        line = l.line;
-        one_line = one_line-take l.rest p.character fits;
+        line = line_ends-ends l.lines ∙ l.line;
+        one_line = line_ends-ends (take p.character l.rest) ∙ one_line-take l.rest p.character fits;
         character = size;
         offset_is = omega (arith, size, l.start_is, sum);
       }
@@ -150,45 +164,45 @@ pub position_behind-append : (p : Position) (a b : List ℕ) → position_behind
 position_behind-append p [] b = refl
 position_behind-append p (ch ∷ a) b = position_behind-append (position_behind_char (is_line_end ch) p) a b
 
-behind_one_line : (line character : ℕ) (text : List ℕ) → line_ends text ≡ 0
+behind_one_line : (line character : ℕ) (text : List ℕ) → ends text ≡ 0
     → position_behind (record { line = line; character = character }) text ≡ record { line = line; character = character + length text }
 behind_one_line line character [] e = let same : character ≡ character + 0 = omega arith in ap (λ c. record { line = line; character = c }) same
 behind_one_line line character (ch ∷ text) e = by_end (is_line_end ch) e (behind_one_line line (character + 1) text) where
-  by_end : (b : Bool) → one_if b + line_ends text ≡ 0
-      → (line_ends text ≡ 0 → position_behind (record { line = line; character = character + 1 }) text ≡ record { line = line; character = character + 1 + length text })
+  by_end : (b : Bool) → one_if b + ends text ≡ 0
+      → (ends text ≡ 0 → position_behind (record { line = line; character = character + 1 }) text ≡ record { line = line; character = character + 1 + length text })
       → position_behind (position_behind_char b (record { line = line; character = character })) text ≡ record { line = line; character = character + suc (length text) }
   by_end true e rest = absurd (omega (arith, e))
   by_end false e rest =
       let same : character + 1 + length text ≡ character + suc (length text) = omega arith in
       rest (omega (arith, e)) ∙ ap (λ c. record { line = line; character = c }) same
 
-behind_lines : (p : Position) (ch : ℕ) (lines : List ℕ) → IsWholeLines (ch ∷ lines) → position_behind p (ch ∷ lines) ≡ record { line = p.line + line_ends (ch ∷ lines); character = 0 }
+behind_lines : (p : Position) (ch : ℕ) (lines : List ℕ) → IsWholeLines (ch ∷ lines) → position_behind p (ch ∷ lines) ≡ record { line = p.line + ends (ch ∷ lines); character = 0 }
 behind_lines p ch [] h =
     ap (λ b. position_behind_char b p) h
     ∙ ap (λ b. record { line = p.line + (one_if b + 0); character = 0 }) (sym h)
 behind_lines p ch (next ∷ lines) h = by_end (is_line_end ch) (λ (q : Position). behind_lines q next lines h) where
-  by_end : (b : Bool) → ((q : Position) → position_behind q (next ∷ lines) ≡ record { line = q.line + line_ends (next ∷ lines); character = 0 })
-      → position_behind (position_behind_char b p) (next ∷ lines) ≡ record { line = p.line + (one_if b + line_ends (next ∷ lines)); character = 0 }
+  by_end : (b : Bool) → ((q : Position) → position_behind q (next ∷ lines) ≡ record { line = q.line + ends (next ∷ lines); character = 0 })
+      → position_behind (position_behind_char b p) (next ∷ lines) ≡ record { line = p.line + (one_if b + ends (next ∷ lines)); character = 0 }
   by_end true rest =
-      let same : (p.line + 1) + line_ends (next ∷ lines) ≡ p.line + (1 + line_ends (next ∷ lines)) = omega arith in
+      let same : (p.line + 1) + ends (next ∷ lines) ≡ p.line + (1 + ends (next ∷ lines)) = omega arith in
       rest (position_behind_char true p) ∙ ap (λ l. record { line = l; character = 0 }) same
   by_end false rest =
-      let same : p.line + line_ends (next ∷ lines) ≡ p.line + (0 + line_ends (next ∷ lines)) = omega arith in
+      let same : p.line + ends (next ∷ lines) ≡ p.line + (0 + ends (next ∷ lines)) = omega arith in
       rest (position_behind_char false p) ∙ ap (λ l. record { line = l; character = 0 }) same
 
-behind_first : (lines : List ℕ) → IsWholeLines lines → position_behind first_position lines ≡ record { line = line_ends lines; character = 0 }
+behind_first : (lines : List ℕ) → IsWholeLines lines → position_behind first_position lines ≡ record { line = ends lines; character = 0 }
 behind_first [] h = refl
 behind_first (ch ∷ lines) h =
-    let same : 0 + line_ends (ch ∷ lines) ≡ line_ends (ch ∷ lines) = omega arith in
+    let same : 0 + ends (ch ∷ lines) ≡ ends (ch ∷ lines) = omega arith in
     behind_lines first_position ch lines h ∙ ap (λ l. record { line = l; character = 0 }) same
 
-behind_cut : (lines before : List ℕ) → IsWholeLines lines → line_ends before ≡ 0 → position_behind first_position (lines ++ before) ≡ record { line = line_ends lines; character = length before }
+behind_cut : (lines before : List ℕ) → IsWholeLines lines → ends before ≡ 0 → position_behind first_position (lines ++ before) ≡ record { line = ends lines; character = length before }
 behind_cut lines before h e =
     let same : 0 + length before ≡ length before = omega arith in
     position_behind-append first_position lines before
     ∙ ap (λ p. position_behind p before) (behind_first lines h)
-    ∙ behind_one_line (line_ends lines) 0 before e
-    ∙ ap (λ c. record { line = line_ends lines; character = c }) same
+    ∙ behind_one_line (ends lines) 0 before e
+    ∙ ap (λ c. record { line = ends lines; character = c }) same
 
 -- a place has one position
 pub position_at-place : (text : List ℕ) (p : Position) (offset : ℕ) → IsPlace text p offset → p ≡ position_at text offset
@@ -197,8 +211,8 @@ position_at-place text p offset h =
     ap (take offset) (h.cut ∙ sym (append_assoc h.lines h.before h.behind))
     ∙ take_at (h.lines ++ h.before) h.behind offset (length-append h.lines h.before ∙ h.offset_is) in
     sym (ap (position_behind first_position) front
-    ∙ behind_cut h.lines h.before h.whole h.one_line
-    ∙ ap (λ l. record { line = l; character = length h.before }) h.line
+    ∙ behind_cut h.lines h.before h.whole (sym (line_ends-ends h.before) ∙ h.one_line)
+    ∙ ap (λ l. record { line = l; character = length h.before }) (sym (line_ends-ends h.lines) ∙ h.line)
     ∙ ap (λ c. record { line = p.line; character = c }) h.character)
 
 -- a text as whole lines and the front of one more
@@ -207,12 +221,12 @@ record IsCut (text : List ℕ) : Type 0 where
   before : List ℕ
   cut : text ≡ lines ++ before
   whole : IsWholeLines lines
-  one_line : line_ends before ≡ 0
+  one_line : ends before ≡ 0
 
 cut_of : (text : List ℕ) → IsCut text
 cut_of [] = record { lines = []; before = []; cut = refl; whole = tt; one_line = refl }
 cut_of (ch ∷ text) = let c = cut_of text in by_lines c.lines c.before c.cut c.whole c.one_line where
-  by_lines : (lines before : List ℕ) → text ≡ lines ++ before → IsWholeLines lines → line_ends before ≡ 0 → IsCut (ch ∷ text)
+  by_lines : (lines before : List ℕ) → text ≡ lines ++ before → IsWholeLines lines → ends before ≡ 0 → IsCut (ch ∷ text)
   by_lines [] before cut h e = by_end (is_line_end ch) refl where
     by_end : (b : Bool) → is_line_end ch ≡ b → IsCut (ch ∷ text)
     by_end true is = record { lines = ch ∷ []; before = before; cut = ap (λ t. ch ∷ t) cut; whole = is; one_line = e }
@@ -221,7 +235,7 @@ cut_of (ch ∷ text) = let c = cut_of text in by_lines c.lines c.before c.cut c.
       before = ch ∷ before;
       cut = ap (λ t. ch ∷ t) cut;
       whole = tt;
-      one_line = ap (λ b. one_if b + line_ends before) is ∙ omega (arith, e);
+      one_line = ap (λ b. one_if b + ends before) is ∙ omega (arith, e);
     }
   by_lines (next ∷ lines) before cut h e = record { lines = ch ∷ (next ∷ lines); before = before; cut = ap (λ t. ch ∷ t) cut; whole = h; one_line = e }
 
@@ -229,7 +243,7 @@ cut_of (ch ∷ text) = let c = cut_of text in by_lines c.lines c.before c.cut c.
 pub place-position_at : (text : List ℕ) (offset : ℕ) → offset ≤ length text → IsPlace text (position_at text offset) offset
 place-position_at text offset h =
     let c = cut_of (take offset text) in
-    let is : position_at text offset ≡ record { line = line_ends c.lines; character = length c.before } =
+    let is : position_at text offset ≡ record { line = ends c.lines; character = length c.before } =
     ap (position_behind first_position) c.cut ∙ behind_cut c.lines c.before c.whole c.one_line in
     record {
       lines = c.lines;
@@ -240,8 +254,8 @@ place-position_at text offset h =
           ∙ ap (λ t. t ++ drop offset text) c.cut
           ∙ append_assoc c.lines c.before (drop offset text);
       whole = c.whole;
-      line = sym (ap (λ (p : Position). p.line) is);
-      one_line = c.one_line;
+      line = line_ends-ends c.lines ∙ sym (ap (λ (p : Position). p.line) is);
+      one_line = line_ends-ends c.before ∙ c.one_line;
       character = sym (ap (λ (p : Position). p.character) is);
       offset_is = sym (length-append c.lines c.before) ∙ sym (ap length c.cut) ∙ length-take-le offset text h;
     }

@@ -3,15 +3,9 @@
 -- UTF-16 code unit unless another is agreed on, and here it is the Unicode scalar value. And it moves a
 -- character past the end of a line back to that end, where here the position is refused.
 use Rattle.std.specs.Prelude.{◌≡◌, ℕ, suc, ◌+◌, Bool, true, false, nat_le, List, [], ◌∷◌, ◌++◌, length, take, drop, Option, Some, None, option_and_then, if◌then◌else◌}
-pub use Rattle.paged.specs.Chars.{is_line_end}
+pub use Rattle.paged.specs.Chars.{is_line_end, line_ends}
 use Rattle.paged.specs.Marks.{behind}
-use Rattle.delta.specs.Cells.{one_if}
 use Rattle.tt_base.specs.declared.edits.Position.{Position}
-
--- the number of lines that end in a text
-abbrev pub line_ends : List ℕ → ℕ
-line_ends [] = 0
-line_ends (ch ∷ text) = one_if (is_line_end ch) + line_ends text
 
 -- the text is empty, or its last character ends a line
 abbrev pub IsWholeLines : List ℕ → Type 0

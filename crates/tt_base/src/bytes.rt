@@ -1,4 +1,4 @@
-ghost use Rattle.std.specs.Prelude.{◌≡◌, ◌<◌, ◌==◌, nat_eq, [], ◌∷◌, ◌++◌, length, slice_index, IfOk, OnOk, OnErr};
+ghost use Rattle.std.specs.Prelude.{◌≡◌, ◌<◌, ◌==◌, nat_eq, [], ◌∷◌, ◌++◌, length, slice_index, IfOk, IsOkAnd, OnOk, OnErr};
 ghost use Rattle.std.specs.Cmp.{partial_equiv_from_equiv};
 ghost use Rattle.std.specs.Cmp.Lexicographic.{pointwise, nat_list_eq_equiv};
 
@@ -20,9 +20,9 @@ impl Model for Blob {
 }
 
 impl Blob {
-    /// The list with no bytes.
+    /// The list with no bytes. It takes no memory, so none can be wanting.
     pub fn empty(alloc: Global) -> Result<Blob, AllocError>
-        ensures { IfOk result (λ blob. blob ≡ []) }
+        ensures { IsOkAnd result (λ blob. blob ≡ []) }
     {
         Ok(Blob {
             bytes: Vec::new(alloc),

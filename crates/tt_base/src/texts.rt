@@ -1,9 +1,9 @@
-ghost use Rattle.std.specs.Prelude.{◌≡◌, ◌+◌, ◌<◌, ◌≤◌, ◌^◌, ◌==◌, nat_eq, [], ◌∷◌, ◌++◌, length, take, drop, slice_index, slice_range, IfOk, OnOk, OnErr, encode_utf8_all, string_bytes};
-ghost use Rattle.std.specs.List.{splice, count_by};
+ghost use Rattle.std.specs.Prelude.{◌≡◌, ◌+◌, ◌<◌, ◌≤◌, ◌^◌, ◌==◌, nat_eq, [], ◌∷◌, ◌++◌, length, take, drop, slice_index, slice_range, IfOk, IsOkAnd, OnOk, OnErr, encode_utf8_all, string_bytes};
+ghost use Rattle.std.specs.List.{splice};
 ghost use Rattle.std.specs.Str.{chars};
 ghost use Rattle.std.specs.Cmp.{partial_equiv_from_equiv};
 ghost use Rattle.std.specs.Cmp.Lexicographic.{pointwise, nat_list_eq_equiv};
-ghost use Rattle.paged.specs.Chars.{is_line_end};
+ghost use Rattle.paged.specs.Chars.{is_line_end, line_ends};
 ghost use Rattle.paged.specs.Marks.{behind};
 ghost use Rattle.paged.specs.Pages.{flat};
 
@@ -30,9 +30,9 @@ impl Model for Text {
 }
 
 impl Text {
-    /// The text with no characters.
+    /// The text with no characters. It takes no memory, so none can be wanting.
     pub fn empty(alloc: Global) -> Result<Text, AllocError>
-        ensures { IfOk result (λ text. text ≡ []) }
+        ensures { IsOkAnd result (λ text. text ≡ []) }
     {
         Ok(Text {
             chars: Paged::empty(alloc),
@@ -93,9 +93,11 @@ impl Text {
         self.chars.runs(place)
     }
 
-    /// Copies all characters behind those of a vector.
+    /// Copies all characters behind those of a vector. After want of memory that has its characters as
+    /// before.
     pub fn append_to(&self, chars: &mut Vec<char>) -> Result<(), AllocError>
-        ensures { OnOk result (chars.new.items ≡ chars.old.items ++ self.now) }
+        ensures ok { OnOk result (chars.new.items ≡ chars.old.items ++ self.now) }
+        ensures err { OnErr result (chars.new.items ≡ chars.old.items) }
     {
         self.runs(0).copy_to(chars, self.len())
     }
@@ -171,7 +173,7 @@ impl Text {
     /// How many lines end before a place.
     pub fn line_ends_before(&self, place: usize) -> usize
         requires { place ≤ length self.now }
-        ensures { result ≡ count_by is_line_end (take place self.now) }
+        ensures { result ≡ line_ends (take place self.now) }
     {
         self.chars.marked_before(place)
     }

@@ -1,5 +1,5 @@
 use Rattle.std.proofs.lemmas.Result.{IfOk-weaker}
-use Rattle.replica_dir.proofs.WinnerLemmas.{found_live, found_rising, none_rising}
+use Rattle.replica_dir.proofs.WinnerLemmas.{found_live, found_rising, none_rising, IfOk-from_IsOkAnd}
 use Rattle.replica_dir.proofs.directories.Directory.live.Goals as goal
 
 pub returns-in-Some-clause-members : goal.returns-in-Some-clause-members
@@ -16,4 +16,4 @@ returns-in-Some-clause-rising c =
     c.outside.ensures.list
 
 pub returns-in-None-clause-rising : goal.returns-in-None-clause-rising
-returns-in-None-clause-rising c = IfOk-weaker c.empty.result _ _ none_rising c.empty.ensures
+returns-in-None-clause-rising c = IfOk-from_IsOkAnd c.empty.result _ _ none_rising c.empty.ensures
