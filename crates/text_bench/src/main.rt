@@ -1,56 +1,78 @@
-//! Runs one operation on a text, a delta, a frame or a URI of a given size, for measuring its time.
+//! Runs one operation again and again on an input of a given size, and measures its time.
 //!
-//! The words are the operation, a size and a count: the characters of a text and the edits or
-//! positions, the bytes of a body and of the pieces that its frame comes in, or the bytes of a path
-//! and how often its URI is read. It prints the lengths or sums of what came out, so that no work is
-//! left out.
+//! The words are the operation, a size, a count and, if wanted, where it works. What came out is printed,
+//! so that no work is left out, and the time goes to standard error: that of the operation alone, without
+//! the making of its input. Each operation has a file of its own.
 #![tactic(auto)]
 
-mod deltas;
+mod apply;
+mod compose;
+mod copy;
+mod finish;
 mod frames;
-mod positions;
-mod transforms;
+mod from_edits;
+mod inputs;
+mod jobs;
+mod keystroke;
+mod measured;
+mod offset;
+mod pass_daemon;
+mod pass_editor;
+mod pass_list;
+mod position;
+mod to_edits;
+mod typed;
 mod uris;
+mod utf8;
+mod vectors;
 
+use crate::jobs::{Job, job_of};
+use crate::measured::Measured;
 use anyhow::{Result, bail};
-use std::alloc::Global;
+use std::time::Clock;
 
-/// The number that a word writes in decimal.
-fn number(word: Option<&String>) -> Result<usize> {
-    let Some(word) = word else {
-        bail!("give an operation, a size and a count");
-    };
-    Ok(word.parse::<usize>()?)
-}
-
-fn lengths(alloc: Global, operation: &str, size: usize, count: usize) -> Result<(usize, usize)> {
+/// Runs an operation.
+fn run(rt: &(impl Clock + AllocGlobal), operation: &str, job: Job) -> Result<Measured> {
     match operation {
-        "finish" => deltas::finish(alloc, size, count),
-        "apply" => deltas::apply(alloc, size, count),
-        "compose" => deltas::compose_two(alloc, size, count),
-        "frames" => frames::read(alloc, size, count),
-        "pass_editor" => transforms::editor(alloc, size, count),
-        "pass_daemon" => transforms::daemon(alloc, size, count),
-        "pass_list" => transforms::list(alloc, size, count),
-        "position_of" => positions::positions(alloc, size, count),
-        "offset_of" => positions::offsets(alloc, size, count),
-        "from_edits" => positions::delta_of(alloc, size, count),
-        "to_edits" => positions::edits_back(alloc, size, count),
-        "uris_plain" => uris::plain(alloc, size, count),
-        "uris_by_url" => uris::by_url(alloc, size, count),
+        "apply" => apply::run(rt, job),
+        "compose" => compose::run(rt, job),
+        "copy" => copy::run(rt, job),
+        "copy_vector" => copy::run_vector(rt, job),
+        "finish" => finish::run(rt, job),
+        "frames" => frames::run(rt, job),
+        "from_edits" => from_edits::run(rt, job),
+        "keystroke" => keystroke::run(rt, job),
+        "keystroke_vector" => keystroke::run_vector(rt, job),
+        "offset_of" => offset::run(rt, job),
+        "pass_daemon" => pass_daemon::run(rt, job),
+        "pass_editor" => pass_editor::run(rt, job),
+        "pass_list" => pass_list::run(rt, job),
+        "position_of" => position::run(rt, job),
+        "position_vector" => position::run_vector(rt, job),
+        "to_edits" => to_edits::run(rt, job),
+        "typed" => typed::run(rt, job),
+        "typed_vector" => typed::run_vector(rt, job),
+        "uris_by_url" => uris::run_by_url(rt, job),
+        "uris_plain" => uris::run_plain(rt, job),
+        "utf8" => utf8::run(rt, job),
+        "utf8_vector" => utf8::run_vector(rt, job),
         _ => bail!("there is no operation {operation}"),
     }
 }
 
 fn main(rt: HostRuntime) -> Result<()> {
-    let alloc = rt.alloc();
-    let words: Vec<String> = std::env::args(&rt)?.skip(1).collect(alloc)?;
+    let words: Vec<String> = std::env::args(&rt)?.skip(1).collect(rt.alloc())?;
     let Some(operation) = words.get(0) else {
         bail!("give an operation, a size and a count");
     };
-    let size = number(words.get(1))?;
-    let count = number(words.get(2))?;
-    let (first, second) = lengths(alloc, operation.as_str(), size, count)?;
+    let job = job_of(words.as_slice())?;
+    let measured = run(&rt, operation.as_str(), job)?;
+    let Measured {
+        first,
+        second,
+        nanoseconds,
+    } = measured;
     println!(rt; "{first} {second}")?;
+    eprintln!(rt; "{nanoseconds}")?;
     Ok(())
 }

@@ -1,6 +1,9 @@
+use crate::jobs::Job;
+use crate::measured::{Measured, ended};
 use anyhow::Result;
 use file_uri::{Base, path_of};
 use std::alloc::{AllocError, Global};
+use std::time::{Clock, Instant};
 
 /// The base that each path is below.
 const BASE: &str = "file:///work/";
@@ -17,25 +20,25 @@ fn uri_below(alloc: Global, base: &str, size: usize) -> Result<String, AllocErro
     Ok(uri)
 }
 
-/// The bytes of a URI, and those of the paths that come of it when it is read `count` times.
-fn read(alloc: Global, uri: &str, count: usize) -> Result<(usize, usize)> {
-    let base = Base::read(alloc, BASE)?;
+/// The bytes of a URI, and those of the paths that come of it when it is read so many times.
+fn run_below(rt: &(impl Clock + AllocGlobal), spelling: &str, job: Job) -> Result<Measured> {
+    let uri = uri_below(rt.alloc(), spelling, job.size)?;
+    let base = Base::read(rt.alloc(), BASE)?;
     let mut bytes = 0usize;
-    for _ in 0..count {
-        let path = path_of(alloc, &base, uri)?;
+    let start = Instant::now(rt)?;
+    for _ in 0..job.count {
+        let path = path_of(rt.alloc(), &base, uri.as_str())?;
         bytes = bytes.saturating_add(path.as_str().len());
     }
-    Ok((uri.len(), bytes))
+    Ok(ended(rt, start, uri.len(), bytes)?)
 }
 
-/// Reads `count` times a plain URI of a path of `size` bytes.
-pub fn plain(alloc: Global, size: usize, count: usize) -> Result<(usize, usize)> {
-    let uri = uri_below(alloc, BASE, size)?;
-    read(alloc, uri.as_str(), count)
+/// Reads a plain URI so many times.
+pub fn run_plain(rt: &(impl Clock + AllocGlobal), job: Job) -> Result<Measured> {
+    run_below(rt, BASE, job)
 }
 
-/// Reads `count` times a URI of the same path that is not plain.
-pub fn by_url(alloc: Global, size: usize, count: usize) -> Result<(usize, usize)> {
-    let uri = uri_below(alloc, ESCAPED_BASE, size)?;
-    read(alloc, uri.as_str(), count)
+/// Reads so many times a URI of the same path that is not plain.
+pub fn run_by_url(rt: &(impl Clock + AllocGlobal), job: Job) -> Result<Measured> {
+    run_below(rt, ESCAPED_BASE, job)
 }

@@ -2,7 +2,7 @@ use Rattle.std.proofs.Common.{ap, arith}
 use Rattle.delta.specs.Cells.{base_length}
 use Rattle.delta.proofs.NormalLemmas.{base_length-normal}
 use Rattle.delta.proofs.BuilderLemmas.{base_length-keep, base_length-delete, base_length-insert}
-use Rattle.text_bench.proofs.deltas.spread.Goals as goal
+use Rattle.text_bench.proofs.inputs.spread.Goals as goal
 
 pub keep-requires : goal.keep-requires
 keep-requires c = omega (arith, c.loop.invariant, c.min-kept.ensures, c.ranges.size)

@@ -1,6 +1,6 @@
 use Rattle.std.proofs.Common.{◌≡◌, ◌+◌}
 use Rattle.delta.specs.Cells.{base_length}
-use Rattle.text_bench.proofs.deltas.spread.Given as goal
+use Rattle.text_bench.proofs.inputs.spread.Given as goal
 
 -- what is built and what is left are the whole base
 abbrev pub invariant-loop : goal.invariant-loop

@@ -1,0 +1,16 @@
+use crate::inputs::spread;
+use crate::jobs::Job;
+use crate::measured::{Measured, ended};
+use anyhow::Result;
+use std::time::{Clock, Instant};
+use transform::pass_editor;
+
+/// The number of steps and the result length of an editor's delta past a daemon's.
+pub fn run(rt: &(impl Clock + AllocGlobal), job: Job) -> Result<Measured> {
+    let p = spread(rt.alloc(), job.size, job.count)?;
+    let q = spread(rt.alloc(), job.size, job.count / 2)?;
+    let start = Instant::now(rt)?;
+    let carried = pass_editor(rt.alloc(), &p, &q)?;
+    let steps = carried.steps().len();
+    Ok(ended(rt, start, steps, carried.result_length())?)
+}
