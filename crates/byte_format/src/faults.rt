@@ -1,5 +1,5 @@
 ghost use Rattle.std.specs.Prelude.{◌≡◌, length};
-ghost use Rattle.byte_format.specs.declared.faults.ReadFault.TheVariants.{Memory};
+ghost use Rattle.byte_format.specs.declared.faults.ReadFault.TheVariants.{Memory, At};
 
 use std::alloc::{AllocError, AllocFailed};
 use thiserror::Error;
@@ -41,12 +41,32 @@ pub struct Outside {
     pub left: usize,
 }
 
+impl Outside {
+    /// The field that begins with these bytes, to the end of all bytes, is outside its format.
+    pub fn at(kind: Kind, bytes: &[u8]) -> Outside
+        ensures { result ≡ record { kind = kind; left = length bytes.now } }
+    {
+        Outside {
+            kind,
+            left: bytes.len(),
+        }
+    }
+}
+
 /// Why a field was not read.
 #[derive(Clone, Copy, Debug, PartialEq, Eq)]
 pub enum ReadFault {
     /// There was no memory for its value.
     Memory,
     At(Outside),
+}
+
+impl From<Outside> for ReadFault {
+    ghost from_gives = { λ field fault. fault ≡ At field };
+
+    fn from(field: Outside) -> ReadFault {
+        ReadFault::At(field)
+    }
 }
 
 impl From<AllocError> for ReadFault {
@@ -70,9 +90,6 @@ impl ReadFault {
     pub fn outside(kind: Kind, bytes: &[u8]) -> ReadFault
         ensures { result ≡ ReadFault.At (record { kind = kind; left = length bytes.now }) }
     {
-        ReadFault::At(Outside {
-            kind,
-            left: bytes.len(),
-        })
+        ReadFault::At(Outside::at(kind, bytes))
     }
 }

@@ -1,3 +1,6 @@
 pub mod Change
 pub mod Encoding
 pub mod Read
+pub mod WellFormed
+pub mod Views
+pub mod Names

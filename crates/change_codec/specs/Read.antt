@@ -1,5 +1,5 @@
 -- What `read_change` returned, against what reading the bytes gives.
-use Rattle.std.specs.Prelude.{◌≡◌, ℕ, ◌+◌, Result, Ok, Err}
+use Rattle.std.specs.Prelude.{◌≡◌, ℕ, ◌+◌, Result, Ok, Err, IsOk}
 use Rattle.byte_format.specs.declared.faults.Kind.{Kind}
 use Rattle.byte_format.specs.declared.faults.Outside.{Outside}
 use Rattle.change_codec.specs.declared.faults.BadEncoding.{BadEncoding}
@@ -11,10 +11,10 @@ pub record IsFirstAt {Y : Type 0} (total place : ℕ) (kind : Kind) (reading : R
   pub ends : place + left ≡ total
   pub first : reading ≡ Err (record { kind = kind; left = left })
 
--- want of memory says nothing
+-- the fault is the first field outside; memory is asked for only where the bytes are read
 abbrev pub IsFault : {Y : Type 0} → ℕ → BadEncoding → Result Y Outside → Type 0
 IsFault total (At place kind) reading = IsFirstAt total place kind reading
-IsFault total Memory reading = Unit {0}
+IsFault total Memory reading = IsOk reading
 
 -- the result is the value that is read, or the first field outside the format
 abbrev pub Reads : {Y : Type 0} → ℕ → Result Y BadEncoding → Result Y Outside → Type 0

@@ -30,6 +30,7 @@ impl Model for Change {
 
 impl Change {
     ghost use Rattle.change_codec.specs.Encoding.{change_format};
+    ghost use Rattle.change_codec.specs.WellFormed.{IsWellFormed};
 
     /// The change with these parts, of which it must be possible to write an encoding.
     pub fn new(actor: Actor, seq: u64, deps: List<Name>, ops: List<Op>) -> Change
@@ -44,10 +45,12 @@ impl Change {
         }
     }
 
-    /// The daemon that made it. The change has an encoding.
+    /// The daemon that made it. The change has an encoding, and so is well formed.
+    #[tactic(auto, using(crate::proofs::WellFormedLaws::fitting_is_well_formed))]
     pub fn actor(&self) -> Actor
         ensures actor { result ≡ self.now.actor }
         ensures fits { change_format.Fits self.now }
+        ensures well_formed { IsWellFormed self.now }
     {
         self.actor
     }

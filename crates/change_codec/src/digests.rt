@@ -1,5 +1,5 @@
 ghost use Rattle.std.specs.Prelude.{◌≡◌};
-ghost use Rattle.sha2.specs.Sha256.{sha256};
+ghost use Rattle.change_codec.specs.Names as spec;
 
 use sha2::{Digest, Sha256};
 use tt_base::Name;
@@ -8,7 +8,7 @@ use tt_base::Name;
 ///
 /// That two encodings differ in their names is not known here: where they do not, both are told.
 pub fn name_of(encoding: &[u8]) -> Name
-    ensures { result ≡ record { 0 = sha256 encoding.now } }
+    ensures { result ≡ spec.name_of encoding.now }
 {
     Name(Sha256::digest(encoding))
 }

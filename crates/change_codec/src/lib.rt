@@ -10,6 +10,7 @@ mod faults;
 pub mod laws;
 mod ops;
 mod reading;
+mod views;
 mod writing;
 
 pub use changes::Change;
