@@ -1,5 +1,6 @@
 -- What is written between quotes for a text is read as that text.
-use Rattle.std.proofs.Common.{◌≡◌, ℕ, ◌<◌, ◌≤◌, ◌⊎◌, ◌==◌, ◌&&◌, ◌||◌, Bool, true, false, List, [], ◌∷◌, ◌++◌, Option, Some, None, refl, sym, ap, ◌∙◌, subst, arith, append_assoc, inl, inr}
+use Rattle.std.proofs.Common.{◌≡◌, ℕ, ◌+◌, get_or, take, ◌<◌, ◌≤◌, ◌⊎◌, ◌==◌, ◌&&◌, ◌||◌, Bool, true, false, List, [], ◌∷◌, ◌++◌}
+use Rattle.std.proofs.Common.{Option, Some, None, refl, sym, ap, ◌∙◌, subst, arith, append_assoc, inl, inr}
 use Rattle.std.specs.Prelude.{option_to_list, is_some, nat_lt, length, encode_utf8_all}
 use Rattle.std.specs.List.{flat_map}
 use Rattle.std.specs.Char.{encode_utf8}
@@ -7,10 +8,14 @@ use Rattle.std.specs.Fmt.{digits}
 use Rattle.std.specs.Str.{bytes_eq}
 use Rattle.std.proofs.lemmas.Bool.{cases_Bool, and_parts, agree_below, agree_below_at, false≢true}
 use Rattle.std.proofs.lemmas.Bool.Decides.{nat_tests}
-use Rattle.std.proofs.lemmas.List.{flat_map_more, length-append}
+use Rattle.std.proofs.lemmas.List.{flat_map_more, length-append, take_more}
+use Rattle.std.proofs.lemmas.List.Concat.{flat_map-append}
+use Rattle.paged.specs.Pages.{flat}
+use Rattle.paged.proofs.FlatLemmas.{flat-append}
 use Rattle.std.proofs.lemmas.Slice.Eq.{bytes_eq-Decides}
 use Rattle.std.proofs.lemmas.Str.{encodes-append}
-use Rattle.replay_script.specs.Quotes.{is_plain, gives, step_between, step_at, place_after, given_by, is_between, unescaped, escaped, escape_of, short_letter}
+use Rattle.replay_script.specs.Quotes.{gives, step_between, step_at, place_after, given_by, is_between}
+use Rattle.replay_script.specs.Texts.{is_plain, escaped, escape_of, short_letter}
 use Rattle.replay_script.specs.declared.escapes.Place.{Place}
 use Rattle.replay_script.specs.declared.escapes.Step.{Step}
 use Rattle.replay_script.specs.declared.escapes.Place.TheVariants.{Between, Escape, Unicode, Digits, Wrong}
@@ -38,7 +43,7 @@ pub record IsReadAs (characters text : List ℕ) : Type 0 where
   pub place : place_after Between characters ≡ Between
   pub given : given_by Between characters ≡ text
 
-between_is : (place : Place) → is_between place ≡ true → place ≡ Between
+pub between_is : (place : Place) → is_between place ≡ true → place ≡ Between
 between_is Between holds = refl
 between_is Escape holds = absurd (false≢true holds)
 between_is Unicode holds = absurd (false≢true holds)
@@ -67,7 +72,7 @@ plain_step c holds = grind (arith, nat_tests)
 pub escaped-plain : (c : ℕ) → is_plain c ≡ true → escaped c ≡ c ∷ []
 escaped-plain c holds = rw holds refl
 
-plain_reads : (c : ℕ) → is_plain c ≡ true → IsReadAs (c ∷ []) (c ∷ [])
+pub plain_reads : (c : ℕ) → is_plain c ≡ true → IsReadAs (c ∷ []) (c ∷ [])
 plain_reads c holds =
     let other = plain_step c holds in
     let step : step_between c ≡ gives c = rw (holds, other) refl in
@@ -81,26 +86,6 @@ escaped_reads c =
           let parts = and_parts _ _ (second _ _ (agree_below_at reads_back (λ _. true) 128 c all_read_back (not_plain_small c fails)) fails) in
           record { place = between_is _ parts.0; given = (bytes_eq-Decides _ _).0 parts.1 }
     ]
-
--- so is a whole text
-pub text_reads : (text : List ℕ) → IsReadAs (flat_map escaped text) text
-text_reads [] = record { place = refl; given = refl }
-text_reads (c ∷ text) =
-    let one = escaped_reads c in
-    let rest = text_reads text in
-    record {
-      place = place_after-append Between (escaped c) (flat_map escaped text) ∙ ap (λ p. place_after p (flat_map escaped text)) one.place ∙ rest.place;
-      given =
-          given_by-append Between (escaped c) (flat_map escaped text)
-          ∙ ap (λ p. given_by Between (escaped c) ++ given_by p (flat_map escaped text)) one.place
-          ∙ ap (λ t. t ++ given_by Between (flat_map escaped text)) one.given
-          ∙ ap (λ t. c ∷ t) rest.given;
-    }
-
-pub unescaped-escaped : (text : List ℕ) → unescaped (flat_map escaped text) ≡ Some text
-unescaped-escaped text =
-    let reads = text_reads text in
-    rw (reads.place, reads.given) refl
 
 -- one character more: the place, and what is given by then
 pub record IsStep (characters : List ℕ) (c : ℕ) (step : Step) : Type 0 where
@@ -148,3 +133,28 @@ encodes-escape c fails =
 -- one character more, as it is written
 pub written_more : (text : List ℕ) (c : ℕ) → encode_utf8_all (flat_map escaped (text ++ c ∷ [])) ≡ encode_utf8_all (flat_map escaped text) ++ encode_utf8_all (escaped c)
 written_more text c = ap encode_utf8_all (sym (flat_map_more escaped [] text c)) ∙ encodes-append (flat_map escaped text) (escaped c)
+
+-- a run of characters more
+abbrev pub as_written : List ℕ → List ℕ
+as_written text = encode_utf8_all (flat_map escaped text)
+
+run_after : (text run : List ℕ) → as_written (text ++ run) ≡ as_written text ++ as_written run
+run_after text run = ap encode_utf8_all (flat_map-append escaped text run) ∙ encodes-append (flat_map escaped text) (flat_map escaped run)
+
+pub run_written : (run bytes before : List ℕ) (i ch : ℕ) → i < length run → ch ≡ get_or run i ch → bytes ≡ before ++ as_written (take i run)
+    → bytes ++ encode_utf8_all (escaped ch) ≡ before ++ as_written (take (i + 1) run)
+run_written run bytes before i ch within is so_far =
+    ap (λ t. t ++ encode_utf8_all (escaped ch)) so_far
+    ∙ append_assoc before (as_written (take i run)) (encode_utf8_all (escaped ch))
+    ∙ ap (λ t. before ++ t) (sym (written_more (take i run) ch) ∙ ap (λ c. as_written (take i run ++ c ∷ [])) is ∙ ap as_written (sym (take_more run i ch within)))
+
+-- a page more
+pub page_written : (pages : List (List ℕ)) (bytes before page : List ℕ) (i : ℕ) → i < length pages → page ≡ get_or pages i page → bytes ≡ before ++ as_written (flat (take i pages))
+    → bytes ++ as_written page ≡ before ++ as_written (flat (take (i + 1) pages))
+page_written pages bytes before page i within is so_far =
+    let front = flat (take i pages) in
+    let whole : flat (take (i + 1) pages) ≡ front ++ page =
+    ap flat (take_more pages i page within ∙ ap (λ p. take i pages ++ p ∷ []) (sym is)) ∙ flat-append (take i pages) (page ∷ []) ∙ ap (λ l. front ++ l) (append-nil page) in
+    ap (λ t. t ++ as_written page) so_far
+    ∙ append_assoc before (as_written front) (as_written page)
+    ∙ ap (λ t. before ++ t) (sym (run_after front page) ∙ ap as_written (sym whole))

@@ -1,7 +1,7 @@
 -- What `parse` gives of digits without a sign or a zero in front is the number of the grammar.
 use Rattle.std.proofs.Common.{◌≡◌, ℕ, ◌==◌, ◌<◌, ◌^◌, ◌&&◌, ◌||◌, Bool, true, false, List, length, get_or, slice_index, Some}
 use Rattle.std.proofs.Common.{None, Result, Ok, Err, nat_lt, refl, sym, ap, ◌∙◌, subst, arith, suc, zero, lit<, inl, inr}
-use Rattle.std.proofs.lemmas.Bool.{cases_Bool, false≢true}
+use Rattle.std.proofs.lemmas.Bool.{cases_Bool, and_parts, false≢true}
 use Rattle.std.proofs.lemmas.Bool.Decides.{nat_tests}
 use Rattle.std.proofs.lemmas.Fmt.{decimal-digits_value, digits_value-decimal, decimal_is_IsNumeral, first_decimal, decimal_digit}
 use Rattle.std.proofs.lemmas.Slice.Eq.{bytes_eq-Decides}
@@ -10,6 +10,7 @@ use Rattle.std.specs.Fmt.{decimal}
 use Rattle.std.specs.Result.{result_ok}
 use Rattle.std.specs.Str.{bytes_eq}
 use Rattle.std.specs.Str.Parse.{AllDigits, IsNumeral, digits_value, without_leading_plus, ParsesUnsigned}
+use Rattle.replay_script.specs.Grammar.{IsNumber}
 use Rattle.replay_script.specs.Numbers.{number_of}
 
 own : IsNumeralModel (AllDigits 10) (digits_value 10)
@@ -82,3 +83,19 @@ pub number_of-decimal : (n : ℕ) → n < 2 ^ 64 → number_of (decimal n) ≡ S
 number_of-decimal n small =
     let value = digits_value-decimal own n small in
     number_spelled (decimal n) (ap decimal value, subst (λ m. m < 2 ^ 64) (sym value) small) ∙ ap Some value
+
+-- what is read as a number is its decimal digits
+pub number_is : (text : List ℕ) (n : ℕ) → number_of text ≡ Some n → IsNumber text n
+number_is text n found =
+    let value = digits_value 10 text in
+    elim (cases_Bool (bytes_eq (decimal value) text && nat_lt value (2 ^ 64))) [
+      | inr fails ↦ let none = rw fails at found in cc
+      | inl holds ↦
+          let parts = and_parts (bytes_eq (decimal value) text) (nat_lt value (2 ^ 64)) holds in
+          let same : value ≡ n = let got = rw holds at found in cc in
+          let small : value < 2 ^ 64 = grind (arith, nat_tests, parts.1) in
+          record {
+            digits = sym ((bytes_eq-Decides (decimal value) text).0 parts.0) ∙ ap decimal same;
+            small = subst (λ m. m < 2 ^ 64) same small;
+          }
+    ]

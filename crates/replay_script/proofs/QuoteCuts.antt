@@ -1,11 +1,12 @@
 -- What stands between the first quote and the last, from the places where they are found.
-use Rattle.std.proofs.Common.{◌≡◌, ◌≢◌, ℕ, zero, suc, ◌+◌, ◌-◌, ◌<◌, ◌≤◌, true, false, List, [], ◌∷◌, length, take, drop, get_or, Option, Some, None, Bor, MatchOption, refl, sym, ap, ◌∙◌, arith, lit<}
+use Rattle.std.proofs.Common.{◌≡◌, ◌≢◌, ℕ, zero, suc, ◌+◌, ◌-◌, ◌<◌, ◌≤◌, true, false, List, [], ◌∷◌, ◌++◌, length, take, drop, get_or}
+use Rattle.std.proofs.Common.{Bool, ◌==◌, ◌&&◌, ◌||◌, Option, Some, None, Bor, MatchOption, refl, sym, ap, ap₂, ◌∙◌, subst, arith, lit<, eqb-true, inl, inr}
 use Rattle.std.specs.Prelude.{option_map, not}
 use Rattle.std.specs.List.{list_any, suffix_len}
 use Rattle.std.specs.Str.Pattern.{RFindsChar, SplitsAroundMatch}
-use Rattle.std.proofs.lemmas.Bool.{or_right}
+use Rattle.std.proofs.lemmas.Bool.{cases_Bool, and_parts, or_right, false≢true}
 use Rattle.std.proofs.lemmas.Bool.Decides.{nat_tests}
-use Rattle.std.proofs.lemmas.List.{get_or-drop, length-drop}
+use Rattle.std.proofs.lemmas.List.{drop_more, get_or-drop, length-drop, take-append-drop}
 use Rattle.std.proofs.lemmas.List.Sums.{suffix_len_is}
 use Rattle.std.proofs.lemmas.Str.Pattern.{NoCharPasses-char}
 use Rattle.replay_script.specs.Quotes.{is_quote, between_quotes}
@@ -39,7 +40,7 @@ behind_last bytes i j is =
     (λ k past within. ap not (quote_alone (get_or bytes k 0) (is.last k past within)))
     (λ some. rw (before, is.quote) refl)
 
-quotes_at : (bytes : List ℕ) (i j : ℕ) → IsLastQuote bytes i j → between_quotes (34 ∷ bytes) ≡ Some (take i bytes, drop j bytes)
+pub quotes_at : (bytes : List ℕ) (i j : ℕ) → IsLastQuote bytes i j → between_quotes (34 ∷ bytes) ≡ Some (take i bytes, drop j bytes)
 quotes_at bytes i j is =
     let any = one_quoted bytes i is.within is.quote in
     let behind = behind_last bytes i j is in
@@ -72,3 +73,64 @@ split_quotes argument rest (Some parts) begins split =
     } in
     let same : Some (parts.0.now, parts.1.now) ≡ Some (take split.0 rest, drop split.1 rest) = rw (split.3, split.4) refl in
     same ∙ sym (ap between_quotes begins ∙ quotes_at rest split.0 split.1 is)
+
+-- a list that has a quote has a last one
+pub record HasLastQuote (bytes : List ℕ) : Type 0 where
+  pub place : ℕ
+  pub is : IsLastQuote bytes place (place + 1)
+
+-- places behind one byte more
+none_further : (b : ℕ) (bytes : List ℕ) (j : ℕ) → ((k : ℕ) → j ≤ k → k < length bytes → get_or bytes k 0 ≢ 34)
+    → (k : ℕ) → suc j ≤ k → k < length (b ∷ bytes) → get_or (b ∷ bytes) k 0 ≢ 34
+none_further b bytes j none zero past within = absurd (omega (arith, past))
+none_further b bytes j none (suc k) past within = none k (omega (arith, past)) (omega (arith, within))
+
+first_holds : (a b : Bool) → (a || b) ≡ true → b ≡ false → a ≡ true
+first_holds true b either fails = refl
+first_holds false b either fails = sym fails ∙ either
+
+pub last_quote : (bytes : List ℕ) → list_any is_quote bytes ≡ true → HasLastQuote bytes
+last_quote [] any = absurd (false≢true any)
+last_quote (b ∷ bytes) any =
+    elim (cases_Bool (list_any is_quote bytes)) [
+      | inl later ↦
+          let rest = last_quote bytes later in
+          record {
+            place = suc rest.place;
+            is = record {
+              within = omega (arith, rest.is.within);
+              next = refl;
+              quote = rest.is.quote;
+              last = λ k past within. none_further b bytes (rest.place + 1) rest.is.last k (omega (arith, past)) within;
+            };
+          }
+      | inr none ↦
+          record {
+            place = 0;
+            is = record {
+              within = omega arith;
+              next = refl;
+              quote = eqb-true b 34 (first_holds (is_quote b) (list_any is_quote bytes) any none);
+              last = λ k past within. none_further b bytes 0 (λ i above inside quote. false≢true (sym none ∙ one_quoted bytes i inside quote)) k past within;
+            };
+          }
+    ]
+
+-- an argument that begins with a quote and has another is what stands around them
+pub quotes_around : (argument : List ℕ) (parts : List ℕ × List ℕ) → between_quotes argument ≡ Some parts → argument ≡ 34 ∷ parts.0 ++ 34 ∷ parts.1
+quotes_around [] parts found = cc
+quotes_around (b ∷ rest) parts found =
+    elim (cases_Bool (b == 34 && list_any is_quote rest)) [
+      | inr fails ↦ let none = rw fails at found in cc
+      | inl holds ↦
+          let both = and_parts (b == 34) (list_any is_quote rest) holds in
+          let first : b ≡ 34 = eqb-true b 34 both.0 in
+          let last = last_quote rest both.1 in
+          let i = last.place in
+          let at : between_quotes (34 ∷ rest) ≡ Some (take i rest, drop (i + 1) rest) = quotes_at rest i (i + 1) last.is in
+          let here : between_quotes (34 ∷ rest) ≡ Some parts = subst (λ c. between_quotes (c ∷ rest) ≡ Some parts) first found in
+          let same : (take i rest, drop (i + 1) rest) ≡ parts = cc in
+          let whole : rest ≡ take i rest ++ 34 ∷ drop (i + 1) rest =
+          sym (take-append-drop i rest) ∙ ap (λ t. take i rest ++ t) (drop_more rest i 0 last.is.within ∙ ap (λ c. c ∷ drop (i + 1) rest) last.is.quote) in
+          ap₂ (λ c t. c ∷ t) first whole ∙ ap (λ p. 34 ∷ p.0 ++ 34 ∷ p.1) same
+    ]

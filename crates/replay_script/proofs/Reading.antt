@@ -26,43 +26,43 @@ some_mapped f None there = there
 some_mapped f (Some value) there = refl
 
 -- two arguments, of which the first is read already
-abbrev rest_read : (form next : Form) (rest : List ℕ) → Option (Value form) → Option (Values (form ∷ next ∷ []))
-rest_read form next rest o =
+abbrev rest_read : (form other : Form) (rest : List ℕ) → Option (Value form) → Option (Values (form ∷ other ∷ []))
+rest_read form other rest o =
     let first : Option (First form) = option_map (λ value. record { value = value; rest = rest }) o in
-    first >>= (λ first. option_map (λ others. (first.value, others)) (option_map (λ value. (value, tt)) (read next first.rest)))
+    first >>= (λ first. option_map (λ others. (first.value, others)) (option_map (λ value. (value, tt)) (read other first.rest)))
 
-two_read : (form next : Form) (text : List ℕ) (parts : Parts) → cut text ≡ Some parts → read_all (form ∷ next ∷ []) text ≡ rest_read form next parts.rest (read form parts.argument)
-two_read form next text parts is = rw is refl
+two_read : (form other : Form) (text : List ℕ) (parts : Parts) → cut text ≡ Some parts → read_all (form ∷ other ∷ []) text ≡ rest_read form other parts.rest (read form parts.argument)
+two_read form other text parts is = rw is refl
 
-rest_none : (form next : Form) (rest : List ℕ) (o : Option (Value form)) → read next rest ≡ None → rest_read form next rest o ≡ None
-rest_none form next rest None none = refl
-rest_none form next rest (Some value) none = rw none refl
+rest_none : (form other : Form) (rest : List ℕ) (o : Option (Value form)) → read other rest ≡ None → rest_read form other rest o ≡ None
+rest_none form other rest None none = refl
+rest_none form other rest (Some value) none = rw none refl
 
 none_from : {A : Type 0} (o : Option A) → is_some o ≡ false → o ≡ None
 none_from None none = refl
 none_from (Some value) none = absurd (false≢true (sym none))
 
 -- the second argument is none of its form
-pub second_missing : (form next : Form) (text : List ℕ) (parts : Parts) → cut text ≡ Some parts → is_some (read next parts.rest) ≡ false → read_all (form ∷ next ∷ []) text ≡ None
-second_missing form next text parts is none =
-    two_read form next text parts is ∙ rest_none form next parts.rest (read form parts.argument) (none_from (read next parts.rest) none)
+pub second_missing : (form other : Form) (text : List ℕ) (parts : Parts) → cut text ≡ Some parts → is_some (read other parts.rest) ≡ false → read_all (form ∷ other ∷ []) text ≡ None
+second_missing form other text parts is none =
+    two_read form other text parts is ∙ rest_none form other parts.rest (read form parts.argument) (none_from (read other parts.rest) none)
 
-first_of_two : (form next : Form) (rest : List ℕ) (fault : LineFault) (o : Option (Value form)) → is_some (read next rest) ≡ true → IsRefusal fault o → IsRefusal fault (rest_read form next rest o)
-first_of_two form next rest NotAMove o there refused = ap (rest_read form next rest) refused
-first_of_two form next rest Memory None there refused = refused
-first_of_two form next rest Memory (Some value) there refused =
-    some_mapped (λ others. (value, others)) (option_map (λ v. (v, tt)) (read next rest)) (some_mapped (λ v. (v, tt)) (read next rest) there)
+first_of_two : (form other : Form) (rest : List ℕ) (fault : LineFault) (o : Option (Value form)) → is_some (read other rest) ≡ true → IsRefusal fault o → IsRefusal fault (rest_read form other rest o)
+first_of_two form other rest NotAMove o there refused = ap (rest_read form other rest) refused
+first_of_two form other rest Memory None there refused = refused
+first_of_two form other rest Memory (Some value) there refused =
+    some_mapped (λ others. (value, others)) (option_map (λ v. (v, tt)) (read other rest)) (some_mapped (λ v. (v, tt)) (read other rest) there)
 
 -- the first argument is refused, where the second is one of its form
-pub first_refused : (form next : Form) (text : List ℕ) (parts : Parts) (fault : LineFault) → cut text ≡ Some parts → is_some (read next parts.rest) ≡ true → IsRefusal fault (read form parts.argument)
-    → IsRefusal fault (read_all (form ∷ next ∷ []) text)
-first_refused form next text parts fault is there refused =
-    subst (λ (o : Option (Values (form ∷ next ∷ []))). IsRefusal fault o) (sym (two_read form next text parts is)) (first_of_two form next parts.rest fault (read form parts.argument) there refused)
+pub first_refused : (form other : Form) (text : List ℕ) (parts : Parts) (fault : LineFault) → cut text ≡ Some parts → is_some (read other parts.rest) ≡ true
+    → IsRefusal fault (read form parts.argument) → IsRefusal fault (read_all (form ∷ other ∷ []) text)
+first_refused form other text parts fault is there refused =
+    subst (λ (o : Option (Values (form ∷ other ∷ []))). IsRefusal fault o) (sym (two_read form other text parts is)) (first_of_two form other parts.rest fault (read form parts.argument) there refused)
 
 -- the second argument is refused, behind one that was read
-pub second_refused : (form next : Form) (text : List ℕ) (parts : Parts) (fault : LineFault) (value : Value form)
-    → cut text ≡ Some parts → read form parts.argument ≡ Some value → IsRefusal fault (read next parts.rest)
-    → IsRefusal fault (read_all (form ∷ next ∷ []) text)
-second_refused form next text parts fault value is first refused =
-    subst (λ (o : Option (Values (form ∷ next ∷ []))). IsRefusal fault o) (sym (two_read form next text parts is ∙ ap (rest_read form next parts.rest) first))
-    (refused_mapped (λ others. (value, others)) fault (option_map (λ v. (v, tt)) (read next parts.rest)) (refused_mapped (λ v. (v, tt)) fault (read next parts.rest) refused))
+pub second_refused : (form other : Form) (text : List ℕ) (parts : Parts) (fault : LineFault) (value : Value form)
+    → cut text ≡ Some parts → read form parts.argument ≡ Some value → IsRefusal fault (read other parts.rest)
+    → IsRefusal fault (read_all (form ∷ other ∷ []) text)
+second_refused form other text parts fault value is first refused =
+    subst (λ (o : Option (Values (form ∷ other ∷ []))). IsRefusal fault o) (sym (two_read form other text parts is ∙ ap (rest_read form other parts.rest) first))
+    (refused_mapped (λ others. (value, others)) fault (option_map (λ v. (v, tt)) (read other parts.rest)) (refused_mapped (λ v. (v, tt)) fault (read other parts.rest) refused))

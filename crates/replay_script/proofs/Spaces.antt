@@ -52,7 +52,7 @@ passes-append before between behind xs ys first second =
       quoting = fold-append quoting_behind before xs ys ∙ ap (λ q. fold quoting_behind q ys) first.quoting ∙ second.quoting;
     }
 
-drop_behind : (xs : List ℕ) (x : ℕ) (ys : List ℕ) → drop (length xs + 1) (xs ++ x ∷ ys) ≡ ys
+pub drop_behind : (xs : List ℕ) (x : ℕ) (ys : List ℕ) → drop (length xs + 1) (xs ++ x ∷ ys) ≡ ys
 drop_behind xs x ys =
     ap (λ t. drop (length xs + 1) t) (sym (append_assoc xs (x ∷ []) ys)) ∙ drop_at (xs ++ x ∷ []) ys (length xs + 1) (length_push xs x)
 
@@ -71,7 +71,7 @@ cut-argument argument rest passes =
 abbrev pub is_unquoted : ℕ → Bool
 is_unquoted b = not (b == 34) && not (b == 32)
 
-unquoted_parts : (b : ℕ) → is_unquoted b ≡ true → ((b == 34) ≡ false) × ((b == 32) ≡ false)
+pub unquoted_parts : (b : ℕ) → is_unquoted b ≡ true → ((b == 34) ≡ false) × ((b == 32) ≡ false)
 unquoted_parts b holds = (grind (arith, nat_tests), grind (arith, nat_tests))
 
 pub unquoted_passes : (bytes : List ℕ) → list_all is_unquoted bytes ≡ true → Passes Outside bytes Outside

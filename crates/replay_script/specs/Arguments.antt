@@ -1,21 +1,21 @@
--- The forms of arguments: for each, what an argument of this form says, and how it is written.
-use Rattle.std.specs.Prelude.{ℕ, List, [], ◌∷◌, ◌++◌, Option, None, option_and_then}
-use Rattle.std.specs.Fmt.{decimal}
+-- How the arguments behind a word are read, one after another, each by its form.
+use Rattle.std.specs.Prelude.{ℕ, List, [], ◌∷◌, Option, None, option_and_then}
 use Rattle.std.specs.Option.{option_map}
-use Rattle.hex.specs.Hex.{encode_lower}
-use Rattle.outside.specs.declared.modes.Mode.{Mode}
 use Rattle.tt_base.specs.declared.contents.Content.{Content}
-use Rattle.replay_script.specs.Contents.{content_of, content_text, mode_of, mode_text, speaker_of, speaker_text}
+use Rattle.replay_script.specs.Contents.{content_of, mode_of, speaker_of}
 use Rattle.replay_script.specs.Cut.{cut}
 use Rattle.replay_script.specs.Numbers.{number_of, bytes_of}
-use Rattle.replay_script.specs.Paths.{path_of, path_text}
-use Rattle.replay_script.specs.Quotes.{text_of, quoted}
+use Rattle.replay_script.specs.Paths.{path_of}
+use Rattle.replay_script.specs.Quotes.{text_of}
 use Rattle.replay_script.specs.declared.contents.Speaker.{Speaker}
+use Rattle.outside.specs.declared.modes.Mode.{Mode}
 
+-- the second reading, where the first gives a value
 infixl 10 ◌>>=◌
 abbrev pub ◌>>=◌ : {A B : Type 0} → Option A → (A → Option B) → Option B
 o >>= f = option_and_then f o
 
+-- a form of arguments
 pub data Form : Type 0 where
   Number : Form
   Path : Form
@@ -45,16 +45,6 @@ read StopMode text = mode_of text
 read Hexadecimal text = bytes_of text
 read Speaks text = speaker_of text
 
--- how a value is written
-abbrev pub written : (form : Form) → Value form → List ℕ
-written Number n = decimal n
-written Path path = path_text path
-written Text text = quoted text
-written Contents content = content_text content
-written StopMode mode = mode_text mode
-written Hexadecimal bytes = encode_lower bytes
-written Speaks speaker = speaker_text speaker
-
 -- one value for each form
 abbrev pub Values : List Form → Type 0
 Values [] = Unit {0}
@@ -65,6 +55,7 @@ pub record First (form : Form) : Type 0 where
   pub value : Value form
   pub rest : List ℕ
 
+-- the same of a text that begins with an argument of the form
 abbrev pub first_of : (form : Form) → List ℕ → Option (First form)
 first_of form text = cut text >>= (λ parts. option_map (λ value. record { value = value; rest = parts.rest }) (read form parts.argument))
 
@@ -72,10 +63,5 @@ first_of form text = cut text >>= (λ parts. option_map (λ value. record { valu
 abbrev pub read_all : (forms : List Form) → List ℕ → Option (Values forms)
 read_all [] text = None
 read_all (form ∷ []) text = option_map (λ value. (value, tt)) (read form text)
-read_all (form ∷ next ∷ forms) text =
-    first_of form text >>= (λ first. option_map (λ others. (first.value, others)) (read_all (next ∷ forms) first.rest))
-
--- the values as they are written, each with a space in front
-abbrev pub written_all : (forms : List Form) → Values forms → List ℕ
-written_all [] values = []
-written_all (form ∷ forms) values = 32 ∷ written form values.0 ++ written_all forms values.1
+read_all (form ∷ second ∷ forms) text =
+    first_of form text >>= (λ first. option_map (λ others. (first.value, others)) (read_all (second ∷ forms) first.rest))

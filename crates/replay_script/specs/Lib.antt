@@ -1,7 +1,10 @@
+pub mod Characters
+pub mod Texts
+pub mod Grammar
+pub mod Laws
 pub mod Arguments
 pub mod Contents
 pub mod Cut
-pub mod Laws
 pub mod Lines
 pub mod Numbers
 pub mod Paths

@@ -1,9 +1,10 @@
--- Lines of a script, each without its LF: the move that a line asks for, and the line that is written for a move.
-use Rattle.std.specs.Prelude.{ℕ, ◌==◌, List, [], ◌∷◌, ◌++◌, Option, Some, None, if◌then◌else◌}
+-- How a line, given without its LF, is read as a move.
+use Rattle.std.specs.Prelude.{ℕ, ◌==◌, List, [], ◌∷◌, Option, Some, None, if◌then◌else◌}
 use Rattle.std.specs.Option.{option_map}
-use Rattle.replay_script.specs.Arguments.{◌>>=◌, read_all, written_all}
+use Rattle.replay_script.specs.Arguments.{◌>>=◌, read_all}
+use Rattle.replay_script.specs.Characters.{hash}
 use Rattle.replay_script.specs.Cut.{cut}
-use Rattle.replay_script.specs.Words.{Asking, forms_of, name_of, word_named, asked, asking_of}
+use Rattle.replay_script.specs.Words.{forms_of, word_named, asked}
 use Rattle.replay_script.specs.declared.moves.Move.{Move}
 use Rattle.replay_script.specs.declared.words.Word.{Word}
 
@@ -15,14 +16,7 @@ asked_with arguments word = option_map (asked word) (read_all (forms_of word) ar
 abbrev pub asked_by : List ℕ → Option Move
 asked_by text = cut text >>= (λ parts. word_named parts.argument >>= asked_with parts.rest)
 
--- what a line asks for: nothing where it is empty or begins with `#`, else a move; and none where it is outside the grammar
+-- what a line asks for: nothing, a move, or none where it is outside the grammar
 abbrev pub line_asks : List ℕ → Option (Option Move)
 line_asks [] = Some None
-line_asks (b ∷ line) = if b == 35 then Some None else option_map Some (asked_by (b ∷ line))
-
-abbrev pub asking_text : Asking → List ℕ
-asking_text asking = name_of asking.word ++ written_all (forms_of asking.word) asking.values
-
--- the line that is written for a move
-abbrev pub line_of : Move → List ℕ
-line_of moved = asking_text (asking_of moved)
+line_asks (b ∷ line) = if b == hash then Some None else option_map Some (asked_by (b ∷ line))

@@ -1,19 +1,22 @@
--- The table of moves: for each word its name, the forms of its arguments, and the move that it asks for.
-use Rattle.std.specs.Prelude.{ℕ, List, [], ◌∷◌, map, Option, codes, slice_get, option_and_then}
-use Rattle.std.specs.List.{enumerate_from}
+-- How a word is read: its name, the forms of its arguments, and the move that it asks for with them.
+use Rattle.std.specs.Prelude.{ℕ, Bool, true, false, List, [], ◌∷◌, map, Option, codes, slice_get, option_and_then}
+use Rattle.std.specs.List.{enumerate_from, list_any}
 use Rattle.name_table.specs.Rows.{number_of}
 use Rattle.replay_script.specs.Arguments.{Form, Values, Number, Path, Text, Contents, StopMode, Hexadecimal, Speaks}
 use Rattle.replay_script.specs.declared.contents.Speaker.{Speaker}
 use Rattle.replay_script.specs.declared.moves.Move.{Move}
 use Rattle.replay_script.specs.declared.words.Word.{Word}
-use Rattle.replay_script.specs.declared.words.Word.TheVariants.{Daemon, Load, Editor, Typed, Up, Down, Settle, Close, Open, Cut, Show, File, Held, Link}
-use Rattle.replay_script.specs.declared.words.Word.TheVariants.{Pass, Copy, Sync, Unlink, Outside, Sweep, Report, Disk, Crash, Restart, Stop, Begin, Hear, End}
+use Rattle.replay_script.specs.declared.words.Word.TheVariants.{Daemon, Load, Editor, Typed, Up, Down, Settle, Close, Open}
+use Rattle.replay_script.specs.declared.words.Word.TheVariants.{Cut, Show, File, Held, Link, Pass, Copy, Sync, Unlink, Outside}
+use Rattle.replay_script.specs.declared.words.Word.TheVariants.{Sweep, Report, Disk, Crash, Restart, Stop, Begin, Hear, End}
 use Rattle.replay_script.specs.declared.words.TheConstants.{WORDS}
 
+-- a word's name, and the forms of its arguments
 pub record Row : Type 0 where
   pub name : List ℕ
   pub forms : List Form
 
+-- a row for each word
 abbrev pub row_of : Word → Row
 row_of Daemon = record { name = codes "daemon"; forms = Number ∷ [] }
 row_of Load = record { name = codes "load"; forms = Number ∷ Text ∷ Hexadecimal ∷ [] }
@@ -44,10 +47,11 @@ row_of Begin = record { name = codes "begin"; forms = Number ∷ Number ∷ Spea
 row_of Hear = record { name = codes "hear"; forms = Number ∷ Number ∷ Hexadecimal ∷ [] }
 row_of End = record { name = codes "end"; forms = Number ∷ Number ∷ [] }
 
--- the forms of a word's arguments, and its name
+-- the forms of a word's arguments
 abbrev pub forms_of : Word → List Form
 forms_of word = (row_of word).forms
 
+-- its name
 abbrev pub name_of : Word → List ℕ
 name_of word = (row_of word).name
 
@@ -59,6 +63,7 @@ names = enumerate_from 0 (map name_of WORDS)
 abbrev pub word_named : List ℕ → Option Word
 word_named name = option_and_then (λ number. slice_get WORDS number) (number_of name names)
 
+-- the move that begins a connection
 abbrev pub begun : Speaker → ℕ → ℕ → Move
 begun Speaker.Editor daemon conn = Move.BeginEditor daemon conn
 begun Speaker.Peer daemon conn = Move.BeginPeer daemon conn
@@ -94,38 +99,16 @@ asked Begin (d, (conn, (speaker, _))) = begun speaker d conn
 asked Hear (d, (conn, (bytes, _))) = Move.Hear d conn bytes
 asked End (d, (conn, _)) = Move.End d conn
 
--- a move as a word and its arguments
-pub record Asking : Type 0 where
-  pub word : Word
-  pub values : Values (forms_of word)
+-- the forms whose values are kept in memory that is asked for
+abbrev pub is_kept_form : Form → Bool
+is_kept_form Number = false
+is_kept_form Path = true
+is_kept_form Text = true
+is_kept_form Contents = true
+is_kept_form StopMode = false
+is_kept_form Hexadecimal = true
+is_kept_form Speaks = false
 
-abbrev pub asking_of : Move → Asking
-asking_of (Move.Daemon d) = record { word = Daemon; values = (d, tt) }
-asking_of (Move.Load d base disk) = record { word = Load; values = (d, (base, (disk, tt))) }
-asking_of (Move.Editor e d path text) = record { word = Editor; values = (e, (d, (path, (text, tt)))) }
-asking_of (Move.Typed e place gone text) = record { word = Typed; values = (e, (place, (gone, (text, tt)))) }
-asking_of (Move.Up e) = record { word = Up; values = (e, tt) }
-asking_of (Move.Down e) = record { word = Down; values = (e, tt) }
-asking_of (Move.Settle e) = record { word = Settle; values = (e, tt) }
-asking_of (Move.Close e) = record { word = Close; values = (e, tt) }
-asking_of (Move.Open e) = record { word = Open; values = (e, tt) }
-asking_of (Move.Cut e) = record { word = Cut; values = (e, tt) }
-asking_of (Move.Show e) = record { word = Show; values = (e, tt) }
-asking_of (Move.File d path) = record { word = File; values = (d, (path, tt)) }
-asking_of (Move.Held d) = record { word = Held; values = (d, tt) }
-asking_of (Move.Link a b) = record { word = Link; values = (a, (b, tt)) }
-asking_of (Move.Pass a b k) = record { word = Pass; values = (a, (b, (k, tt))) }
-asking_of (Move.Copy a b k) = record { word = Copy; values = (a, (b, (k, tt))) }
-asking_of (Move.Sync a b n) = record { word = Sync; values = (a, (b, (n, tt))) }
-asking_of (Move.Unlink a b) = record { word = Unlink; values = (a, (b, tt)) }
-asking_of (Move.Outside d path content) = record { word = Outside; values = (d, (path, (content, tt))) }
-asking_of (Move.Sweep d) = record { word = Sweep; values = (d, tt) }
-asking_of (Move.Report d path content) = record { word = Report; values = (d, (path, (content, tt))) }
-asking_of (Move.Disk d path) = record { word = Disk; values = (d, (path, tt)) }
-asking_of (Move.Crash d) = record { word = Crash; values = (d, tt) }
-asking_of (Move.Restart d) = record { word = Restart; values = (d, tt) }
-asking_of (Move.Stop d k mode) = record { word = Stop; values = (d, (k, (mode, tt))) }
-asking_of (Move.BeginEditor d conn) = record { word = Begin; values = (d, (conn, (Speaker.Editor, tt))) }
-asking_of (Move.BeginPeer d conn) = record { word = Begin; values = (d, (conn, (Speaker.Peer, tt))) }
-asking_of (Move.Hear d conn bytes) = record { word = Hear; values = (d, (conn, (bytes, tt))) }
-asking_of (Move.End d conn) = record { word = End; values = (d, (conn, tt)) }
+-- the moves of the word have a path, a text or bytes
+abbrev pub takes_memory : Word → Bool
+takes_memory word = list_any is_kept_form (forms_of word)

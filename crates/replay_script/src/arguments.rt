@@ -8,7 +8,6 @@ ghost use Rattle.std.specs.Option.{option_map};
 ghost use Rattle.replay_script.specs.Arguments.{first_of, read_all, Number, Path, Contents};
 ghost use Rattle.replay_script.specs.Arguments as spec;
 ghost use Rattle.replay_script.specs.Lines.{asked_with};
-ghost use Rattle.replay_script.specs.Numbers.{number_of};
 ghost use Rattle.replay_script.specs.Reads.{Reads, ReadsAs};
 
 use crate::contents::{Speaker, is_content, read_content, read_mode, read_speaker};
@@ -31,72 +30,62 @@ fn first_number(text: &str) -> Option<(u64, &str)>
     Some((number, parts.rest))
 }
 
-pub(crate) fn one_number(text: &str) -> Result<u64, LineFault>
-    ensures { Reads result (number_of text.now) }
+fn two_numbers(text: &str) -> Option<(u64, u64)>
+    ensures { option_map (λ values. (values.0, (values.1, tt))) result ≡ read_all (Number ∷ Number ∷ []) text.now }
 {
-    read_number(text).ok_or(LineFault::NotAMove)
+    let (first, rest) = first_number(text)?;
+    let second = read_number(rest)?;
+    Some((first, second))
 }
 
-fn two_numbers(text: &str) -> Result<(u64, u64), LineFault>
-    ensures { ReadsAs (λ values. (values.0, (values.1, tt))) result (read_all (Number ∷ Number ∷ []) text.now) }
+fn three_numbers(text: &str) -> Option<(u64, u64, u64)>
+    ensures { option_map (λ values. (values.0, (values.1, (values.2, tt)))) result ≡ read_all (Number ∷ Number ∷ Number ∷ []) text.now }
 {
-    let Some((first, rest)) = first_number(text) else {
-        return Err(LineFault::NotAMove);
-    };
-    let second = one_number(rest)?;
-    Ok((first, second))
-}
-
-fn three_numbers(text: &str) -> Result<(u64, u64, u64), LineFault>
-    ensures { ReadsAs (λ values. (values.0, (values.1, (values.2, tt)))) result (read_all (Number ∷ Number ∷ Number ∷ []) text.now) }
-{
-    let Some((first, rest)) = first_number(text) else {
-        return Err(LineFault::NotAMove);
-    };
+    let (first, rest) = first_number(text)?;
     let (second, third) = two_numbers(rest)?;
-    Ok((first, second, third))
+    Some((first, second, third))
 }
 
-pub(crate) fn read_link(text: &str) -> Result<Move, LineFault>
-    ensures { Reads result (asked_with text.now Word.Link) }
+pub(crate) fn read_link(text: &str) -> Option<Move>
+    ensures { result ≡ asked_with text.now Word.Link }
 {
     let (from, to) = two_numbers(text)?;
-    Ok(Move::Link(from, to))
+    Some(Move::Link(from, to))
 }
 
-pub(crate) fn read_unlink(text: &str) -> Result<Move, LineFault>
-    ensures { Reads result (asked_with text.now Word.Unlink) }
+pub(crate) fn read_unlink(text: &str) -> Option<Move>
+    ensures { result ≡ asked_with text.now Word.Unlink }
 {
     let (from, to) = two_numbers(text)?;
-    Ok(Move::Unlink(from, to))
+    Some(Move::Unlink(from, to))
 }
 
-pub(crate) fn read_end(text: &str) -> Result<Move, LineFault>
-    ensures { Reads result (asked_with text.now Word.End) }
+pub(crate) fn read_end(text: &str) -> Option<Move>
+    ensures { result ≡ asked_with text.now Word.End }
 {
     let (daemon, conn) = two_numbers(text)?;
-    Ok(Move::End(daemon, conn))
+    Some(Move::End(daemon, conn))
 }
 
-pub(crate) fn read_pass(text: &str) -> Result<Move, LineFault>
-    ensures { Reads result (asked_with text.now Word.Pass) }
+pub(crate) fn read_pass(text: &str) -> Option<Move>
+    ensures { result ≡ asked_with text.now Word.Pass }
 {
     let (from, to, frame) = three_numbers(text)?;
-    Ok(Move::Pass(from, to, frame))
+    Some(Move::Pass(from, to, frame))
 }
 
-pub(crate) fn read_copy(text: &str) -> Result<Move, LineFault>
-    ensures { Reads result (asked_with text.now Word.Copy) }
+pub(crate) fn read_copy(text: &str) -> Option<Move>
+    ensures { result ≡ asked_with text.now Word.Copy }
 {
     let (from, to, frame) = three_numbers(text)?;
-    Ok(Move::Copy(from, to, frame))
+    Some(Move::Copy(from, to, frame))
 }
 
-pub(crate) fn read_sync(text: &str) -> Result<Move, LineFault>
-    ensures { Reads result (asked_with text.now Word.Sync) }
+pub(crate) fn read_sync(text: &str) -> Option<Move>
+    ensures { result ≡ asked_with text.now Word.Sync }
 {
     let (from, to, most) = three_numbers(text)?;
-    Ok(Move::Sync(from, to, most))
+    Some(Move::Sync(from, to, most))
 }
 
 /// A number and a path.
@@ -246,33 +235,22 @@ pub(crate) fn read_hear(alloc: Global, text: &str) -> Result<Move, LineFault>
     Ok(Move::Hear(daemon, conn, bytes))
 }
 
-pub(crate) fn read_stop(text: &str) -> Result<Move, LineFault>
-    ensures { Reads result (asked_with text.now Word.Stop) }
+pub(crate) fn read_stop(text: &str) -> Option<Move>
+    ensures { result ≡ asked_with text.now Word.Stop }
 {
-    let Some((daemon, rest)) = first_number(text) else {
-        return Err(LineFault::NotAMove);
-    };
-    let Some((call, rest)) = first_number(rest) else {
-        return Err(LineFault::NotAMove);
-    };
-    match read_mode(rest) {
-        Some(mode) => Ok(Move::Stop(daemon, call, mode)),
-        None => Err(LineFault::NotAMove),
-    }
+    let (daemon, rest) = first_number(text)?;
+    let (call, rest) = first_number(rest)?;
+    let mode = read_mode(rest)?;
+    Some(Move::Stop(daemon, call, mode))
 }
 
-pub(crate) fn read_begin(text: &str) -> Result<Move, LineFault>
-    ensures { Reads result (asked_with text.now Word.Begin) }
+pub(crate) fn read_begin(text: &str) -> Option<Move>
+    ensures { result ≡ asked_with text.now Word.Begin }
 {
-    let Some((daemon, rest)) = first_number(text) else {
-        return Err(LineFault::NotAMove);
-    };
-    let Some((conn, rest)) = first_number(rest) else {
-        return Err(LineFault::NotAMove);
-    };
-    match read_speaker(rest) {
-        Some(Speaker::Editor) => Ok(Move::BeginEditor(daemon, conn)),
-        Some(Speaker::Peer) => Ok(Move::BeginPeer(daemon, conn)),
-        None => Err(LineFault::NotAMove),
+    let (daemon, rest) = first_number(text)?;
+    let (conn, rest) = first_number(rest)?;
+    match read_speaker(rest)? {
+        Speaker::Editor => Some(Move::BeginEditor(daemon, conn)),
+        Speaker::Peer => Some(Move::BeginPeer(daemon, conn)),
     }
 }

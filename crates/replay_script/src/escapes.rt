@@ -1,7 +1,8 @@
-ghost use Rattle.std.specs.Prelude.{◌≡◌, OnOk, [], ◌∷◌, ◌++◌, false, string_bytes, encode_utf8_all};
+ghost use Rattle.std.specs.Prelude.{◌≡◌, OnOk, ◌++◌, false, codes, string_bytes, encode_utf8_all};
 ghost use Rattle.std.specs.Fmt.{digits};
-ghost use Rattle.replay_script.specs.Numbers as numbers;
+ghost use Rattle.replay_script.specs.Characters as characters;
 ghost use Rattle.replay_script.specs.Quotes as spec;
+ghost use Rattle.replay_script.specs.Texts as texts;
 
 use std::alloc::AllocError;
 
@@ -53,7 +54,7 @@ fn gives_if_some(ch: Option<char>) -> Step
 
 /// Whether the character stands for itself between quotes.
 fn is_plain(ch: char) -> bool
-    ensures { result ≡ spec.is_plain ch }
+    ensures { result ≡ texts.is_plain ch }
 {
     ch > '\u{1f}' && ch != '"' && ch != '\\' && ch != '\u{7f}'
 }
@@ -82,7 +83,7 @@ fn scalar_of(count: u32, value: u32) -> Option<char>
 }
 
 pub(crate) fn is_lower_hex(ch: char) -> bool
-    ensures { result ≡ numbers.is_lower_hex ch }
+    ensures { result ≡ characters.is_lower_hex ch }
 {
     ch.is_ascii_digit() || ('a'..='f').contains(&ch)
 }
@@ -157,7 +158,7 @@ impl Place {
 
 /// The letter of the short escape for the character.
 fn short_letter(ch: char) -> Option<char>
-    ensures { result ≡ spec.short_letter ch }
+    ensures { result ≡ texts.short_letter ch }
 {
     match ch {
         '"' | '\\' => Some(ch),
@@ -170,7 +171,7 @@ fn short_letter(ch: char) -> Option<char>
 
 /// Writes `\u{H}` for the code of a character.
 fn push_code(out: &mut String, code: u32) -> Result<(), AllocError>
-    ensures { OnOk result (string_bytes out.new ≡ string_bytes out.old ++ (92 ∷ 117 ∷ 123 ∷ digits 16 false code ++ 125 ∷ [])) }
+    ensures { OnOk result (string_bytes out.new ≡ string_bytes out.old ++ (codes "\\u{" ++ digits 16 false code ++ codes "}")) }
 {
     out.push_str("\\u{")?;
     write!(out, "{code:x}")?;
@@ -179,7 +180,7 @@ fn push_code(out: &mut String, code: u32) -> Result<(), AllocError>
 
 /// Writes the character as it stands between quotes. After want of memory a part may be written.
 pub(crate) fn push_escaped(out: &mut String, ch: char) -> Result<(), AllocError>
-    ensures { OnOk result (string_bytes out.new ≡ string_bytes out.old ++ encode_utf8_all (spec.escaped ch)) }
+    ensures { OnOk result (string_bytes out.new ≡ string_bytes out.old ++ encode_utf8_all (texts.escaped ch)) }
 {
     if is_plain(ch) {
         return out.push(ch);

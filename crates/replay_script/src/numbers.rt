@@ -1,5 +1,6 @@
 ghost use Rattle.std.specs.Prelude.{◌≡◌, ◌==◌, ◌&&◌, ◌||◌, nat_lt, length, slice_index};
 ghost use Rattle.std.specs.List.{list_all};
+ghost use Rattle.replay_script.specs.Characters as characters;
 ghost use Rattle.replay_script.specs.Numbers as numbers;
 ghost use Rattle.replay_script.specs.Reads.{Reads};
 
@@ -25,13 +26,13 @@ pub(crate) fn read_number(text: &str) -> Option<u64>
 }
 
 fn is_lower_hex(byte: u8) -> bool
-    ensures { result ≡ numbers.is_lower_hex byte }
+    ensures { result ≡ characters.is_lower_hex byte }
 {
     byte.is_ascii_digit() || (b'a'..=b'f').contains(&byte)
 }
 
 fn are_lower_hex(text: &str) -> bool
-    ensures { result ≡ list_all numbers.is_lower_hex text.now }
+    ensures { result ≡ list_all characters.is_lower_hex text.now }
 {
     text.as_bytes().iter().all(|byte| is_lower_hex(*byte))
 }

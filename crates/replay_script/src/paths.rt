@@ -6,6 +6,7 @@ ghost use Rattle.std.specs.Bool.{OnTrue, OnFalse};
 ghost use Rattle.std.specs.List.{list_all};
 ghost use Rattle.std.specs.Str.{chars};
 ghost use Rattle.arrayvec.specs.ArrayString.{array_string_len};
+ghost use Rattle.replay_script.specs.Grammar as grammar;
 ghost use Rattle.replay_script.specs.Paths as spec;
 ghost use Rattle.replay_script.specs.Quotes.{given_by, spelled, seen};
 ghost use Rattle.replay_script.specs.Reads.{Reads};
@@ -18,14 +19,14 @@ use std::alloc::Global;
 use tt_base::{PathFault, SharedPath};
 
 fn is_bare_byte(byte: u8) -> bool
-    ensures { result ≡ spec.is_bare byte }
+    ensures { result ≡ grammar.is_bare byte }
 {
     byte.is_ascii_alphanumeric() || matches!(byte, b'.' | b'_' | b'-' | b'/')
 }
 
 /// Whether the text may stand in a line without quotes.
 pub(crate) fn is_bare(text: &str) -> bool
-    ensures { result ≡ list_all spec.is_bare text.now }
+    ensures { result ≡ list_all grammar.is_bare text.now }
 {
     text.as_bytes().iter().all(|byte| is_bare_byte(*byte))
 }

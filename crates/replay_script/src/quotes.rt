@@ -1,7 +1,7 @@
 //! Texts in quotes. A spelling is judged in one pass that takes no memory, and its text is made in
-//! another, once for each time that it is spelled.
+//! another: it is spelled out once, and then copied for each further time.
 
-ghost use Rattle.std.specs.Prelude.{◌≡◌, ◌++◌, length, IfOk, OnOk, is_some};
+ghost use Rattle.std.specs.Prelude.{◌≡◌, length, IfOk, is_some};
 ghost use Rattle.std.specs.Option.{option_map};
 ghost use Rattle.std.specs.Str.{chars};
 ghost use Rattle.replay_script.specs.Quotes as spec;
@@ -95,30 +95,32 @@ impl<'a> Spelling<'a> {
     }
 }
 
-/// Adds the text that stands between quotes. After want of memory a part of it may be added.
-fn push_unescaped(alloc: Global, text: &mut Text, inside: &str) -> Result<(), AllocError>
-    ensures { OnOk result (text.new ≡ text.old ++ spec.given_by Place.Between (chars inside.now)) }
+/// The text that stands between quotes, spelled once.
+fn unescaped(alloc: Global, inside: &str) -> Result<Vec<char>, AllocError>
+    ensures { IfOk result (λ text. text.items ≡ spec.given_by Place.Between (chars inside.now)) }
 {
     let mut place = Place::Between;
+    let mut text = Vec::new(alloc);
     for ch in inside.chars() {
         let step = place.step(ch);
         place = step.place;
         if let Some(given) = step.given {
-            text.push(alloc, given)?;
+            text.push(given)?;
         }
     }
-    Ok(())
+    Ok(text)
 }
 
-/// The text that is spelled.
+/// The text that is spelled. It is spelled out once, however often it is meant.
 fn spelled_text(alloc: Global, spelling: Spelling<'_>) -> Result<Text, AllocError>
     ensures { IfOk result (λ text. text ≡ spec.spelled (spec.seen spelling.entry)) }
 {
-    let mut text = Text::empty(alloc)?;
-    for time in 0..spelling.times {
-        push_unescaped(alloc, &mut text, spelling.inside)?;
+    let once = unescaped(alloc, spelling.inside)?;
+    if spelling.times == 1 {
+        return Text::from_vec(alloc, once);
     }
-    Ok(text)
+    let all = once.as_slice().repeat(alloc, spelling.times as usize)?;
+    Text::from_vec(alloc, all)
 }
 
 /// Whether the argument is a text in quotes.

@@ -5,9 +5,9 @@ ghost use Rattle.std.specs.Fmt.{decimal};
 ghost use Rattle.std.specs.List.{flat_map};
 ghost use Rattle.std.specs.Str.{chars};
 ghost use Rattle.hex.specs.Hex.{encode_lower};
-ghost use Rattle.replay_script.specs.Contents.{bytes_text, content_text, mode_text, speaker_text};
-ghost use Rattle.replay_script.specs.Paths.{path_text};
-ghost use Rattle.replay_script.specs.Quotes.{escaped, quoted};
+ghost use Rattle.replay_script.specs.Contents.{speaker_word};
+ghost use Rattle.replay_script.specs.Grammar.{content_text, file_text, mode_word, path_text};
+ghost use Rattle.replay_script.specs.Texts.{escaped, quoted};
 
 use crate::contents::Speaker;
 use crate::escapes::push_escaped;
@@ -17,7 +17,7 @@ use std::alloc::{AllocError, Global};
 use std::str;
 use tt_base::{Blob, Content, SharedPath, Text};
 
-/// Writes the characters as they stand between quotes.
+/// Writes the characters of a string as they stand between quotes.
 fn push_characters(out: &mut String, text: &str) -> Result<(), AllocError>
     ensures { OnOk result (string_bytes out.new ≡ string_bytes out.old ++ encode_utf8_all (flat_map escaped (chars text.now))) }
 {
@@ -27,12 +27,22 @@ fn push_characters(out: &mut String, text: &str) -> Result<(), AllocError>
     Ok(())
 }
 
-/// Writes the text as it stands between quotes.
-fn push_text_characters(out: &mut String, text: &Text) -> Result<(), AllocError>
+/// Writes a run of characters as they stand between quotes.
+fn push_run(out: &mut String, run: &[char]) -> Result<(), AllocError>
+    ensures { OnOk result (string_bytes out.new ≡ string_bytes out.old ++ encode_utf8_all (flat_map escaped run.now)) }
+{
+    for ch in run {
+        push_escaped(out, *ch)?;
+    }
+    Ok(())
+}
+
+/// Writes the text as it stands between quotes, page by page.
+fn push_pages(out: &mut String, text: &Text) -> Result<(), AllocError>
     ensures { OnOk result (string_bytes out.new ≡ string_bytes out.old ++ encode_utf8_all (flat_map escaped text.now)) }
 {
-    for place in 0..text.len() {
-        push_escaped(out, text.char_at(place))?;
+    for page in text.pages() {
+        push_run(out, page.as_slice())?;
     }
     Ok(())
 }
@@ -49,7 +59,7 @@ pub(crate) fn push_text(out: &mut String, text: &Text) -> Result<(), AllocError>
     ensures { OnOk result (string_bytes out.new ≡ string_bytes out.old ++ quoted text.now) }
 {
     out.push('"')?;
-    push_text_characters(out, text)?;
+    push_pages(out, text)?;
     out.push('"')
 }
 
@@ -76,7 +86,7 @@ pub(crate) fn push_hexadecimal(
 }
 
 fn push_bytes(alloc: Global, out: &mut String, bytes: &Blob) -> Result<(), AllocError>
-    ensures { OnOk result (string_bytes out.new ≡ string_bytes out.old ++ bytes_text bytes.now) }
+    ensures { OnOk result (string_bytes out.new ≡ string_bytes out.old ++ file_text bytes.now) }
 {
     match str::from_utf8(bytes.as_slice()) {
         Ok(text) => push_quoted(out, text),
@@ -102,7 +112,7 @@ pub(crate) fn push_content(
 }
 
 fn mode_name(mode: Mode) -> &'static str
-    ensures { result.now ≡ mode_text mode }
+    ensures { result.now ≡ mode_word mode }
 {
     match mode {
         Mode::Lost => "lost",
@@ -112,13 +122,13 @@ fn mode_name(mode: Mode) -> &'static str
 }
 
 pub(crate) fn push_mode(out: &mut String, mode: Mode) -> Result<(), AllocError>
-    ensures { OnOk result (string_bytes out.new ≡ string_bytes out.old ++ mode_text mode) }
+    ensures { OnOk result (string_bytes out.new ≡ string_bytes out.old ++ mode_word mode) }
 {
     out.push_str(mode_name(mode))
 }
 
 fn speaker_name(speaker: Speaker) -> &'static str
-    ensures { result.now ≡ speaker_text speaker }
+    ensures { result.now ≡ speaker_word speaker }
 {
     match speaker {
         Speaker::Editor => "editor",
@@ -127,7 +137,7 @@ fn speaker_name(speaker: Speaker) -> &'static str
 }
 
 pub(crate) fn push_speaker(out: &mut String, speaker: Speaker) -> Result<(), AllocError>
-    ensures { OnOk result (string_bytes out.new ≡ string_bytes out.old ++ speaker_text speaker) }
+    ensures { OnOk result (string_bytes out.new ≡ string_bytes out.old ++ speaker_word speaker) }
 {
     out.push_str(speaker_name(speaker))
 }

@@ -1,9 +1,10 @@
 //! The line of a move: its word, and each argument with a space in front.
 
 ghost use Rattle.std.specs.Prelude.{◌≡◌, [], ◌∷◌, ◌++◌, IfOk, OnOk, string_bytes};
-ghost use Rattle.replay_script.specs.Arguments.{written, written_all, Number, Path, Contents};
-ghost use Rattle.replay_script.specs.Arguments as spec;
-ghost use Rattle.replay_script.specs.Lines.{line_of};
+ghost use Rattle.replay_script.specs.Characters.{space};
+ghost use Rattle.replay_script.specs.Contents.{speaker_word};
+ghost use Rattle.replay_script.specs.Grammar.{line_of, spaced, written, Number, Path, Contents, Fixed};
+ghost use Rattle.replay_script.specs.Grammar as grammar;
 ghost use Rattle.replay_script.specs.Words.{name_of};
 
 use crate::contents::Speaker;
@@ -18,7 +19,7 @@ use tt_base::{Blob, Content, SharedPath, Text};
 
 /// Adds a number behind a space.
 fn add_number(line: &mut String, number: u64) -> Result<(), AllocError>
-    ensures { OnOk result (string_bytes line.new ≡ string_bytes line.old ++ 32 ∷ written Number number) }
+    ensures { OnOk result (string_bytes line.new ≡ string_bytes line.old ++ space ∷ written (Number number)) }
 {
     line.push(' ')?;
     push_number(line, number)
@@ -26,7 +27,7 @@ fn add_number(line: &mut String, number: u64) -> Result<(), AllocError>
 
 /// Adds a path behind a space.
 fn add_path(line: &mut String, path: &SharedPath) -> Result<(), AllocError>
-    ensures { OnOk result (string_bytes line.new ≡ string_bytes line.old ++ 32 ∷ written Path path.now) }
+    ensures { OnOk result (string_bytes line.new ≡ string_bytes line.old ++ space ∷ written (Path path.now)) }
 {
     line.push(' ')?;
     push_path(line, path)
@@ -34,7 +35,7 @@ fn add_path(line: &mut String, path: &SharedPath) -> Result<(), AllocError>
 
 /// Adds a text behind a space.
 fn add_text(line: &mut String, text: &Text) -> Result<(), AllocError>
-    ensures { OnOk result (string_bytes line.new ≡ string_bytes line.old ++ 32 ∷ written spec.Text text.now) }
+    ensures { OnOk result (string_bytes line.new ≡ string_bytes line.old ++ space ∷ written (grammar.Text text.now)) }
 {
     line.push(' ')?;
     push_text(line, text)
@@ -42,7 +43,7 @@ fn add_text(line: &mut String, text: &Text) -> Result<(), AllocError>
 
 /// Adds bytes in hexadecimal behind a space.
 fn add_hexadecimal(alloc: Global, line: &mut String, bytes: &Blob) -> Result<(), AllocError>
-    ensures { OnOk result (string_bytes line.new ≡ string_bytes line.old ++ 32 ∷ written spec.Hexadecimal bytes.now) }
+    ensures { OnOk result (string_bytes line.new ≡ string_bytes line.old ++ space ∷ written (grammar.Hexadecimal bytes.now)) }
 {
     line.push(' ')?;
     push_hexadecimal(alloc, line, bytes)
@@ -50,7 +51,7 @@ fn add_hexadecimal(alloc: Global, line: &mut String, bytes: &Blob) -> Result<(),
 
 /// The word and one number.
 fn with_number(alloc: Global, word: Word, number: u64) -> Result<String, AllocError>
-    ensures { IfOk result (λ line. string_bytes line ≡ name_of word ++ written_all (Number ∷ []) (number, tt)) }
+    ensures { IfOk result (λ line. string_bytes line ≡ spaced (name_of word) (written (Number number) ∷ [])) }
 {
     let mut line = word.written(alloc)?;
     add_number(&mut line, number)?;
@@ -59,7 +60,7 @@ fn with_number(alloc: Global, word: Word, number: u64) -> Result<String, AllocEr
 
 /// The word and two numbers.
 fn with_two(alloc: Global, word: Word, first: u64, second: u64) -> Result<String, AllocError>
-    ensures { IfOk result (λ line. string_bytes line ≡ name_of word ++ written_all (Number ∷ Number ∷ []) (first, (second, tt))) }
+    ensures { IfOk result (λ line. string_bytes line ≡ spaced (name_of word) (written (Number first) ∷ written (Number second) ∷ [])) }
 {
     let mut line = word.written(alloc)?;
     add_number(&mut line, first)?;
@@ -75,7 +76,7 @@ fn with_three(
     second: u64,
     third: u64,
 ) -> Result<String, AllocError>
-    ensures { IfOk result (λ line. string_bytes line ≡ name_of word ++ written_all (Number ∷ Number ∷ Number ∷ []) (first, (second, (third, tt)))) }
+    ensures { IfOk result (λ line. string_bytes line ≡ spaced (name_of word) (written (Number first) ∷ written (Number second) ∷ written (Number third) ∷ [])) }
 {
     let mut line = with_two(alloc, word, first, second)?;
     add_number(&mut line, third)?;
@@ -89,26 +90,44 @@ fn with_path(
     daemon: u64,
     path: &SharedPath,
 ) -> Result<String, AllocError>
-    ensures { IfOk result (λ line. string_bytes line ≡ name_of word ++ written_all (Number ∷ Path ∷ []) (daemon, (path.now, tt))) }
+    ensures { IfOk result (λ line. string_bytes line ≡ spaced (name_of word) (written (Number daemon) ∷ written (Path path.now) ∷ [])) }
 {
     let mut line = with_number(alloc, word, daemon)?;
     add_path(&mut line, path)?;
     Ok(line)
 }
 
-/// The word, a number, a path and a content.
-fn with_content(
+/// Adds a content behind a space.
+fn add_content(alloc: Global, line: &mut String, content: &Content) -> Result<(), AllocError>
+    ensures { OnOk result (string_bytes line.new ≡ string_bytes line.old ++ space ∷ written (Contents content.now)) }
+{
+    line.push(' ')?;
+    push_content(alloc, line, content)
+}
+
+fn outside_line(
     alloc: Global,
-    word: Word,
     daemon: u64,
     path: &SharedPath,
     content: &Content,
 ) -> Result<String, AllocError>
-    ensures { IfOk result (λ line. string_bytes line ≡ name_of word ++ written_all (Number ∷ Path ∷ Contents ∷ []) (daemon, (path.now, (content.now, tt)))) }
+    ensures { IfOk result (λ line. string_bytes line ≡ line_of (Move.Outside daemon path.now content.now)) }
 {
-    let mut line = with_path(alloc, word, daemon, path)?;
-    line.push(' ')?;
-    push_content(alloc, &mut line, content)?;
+    let mut line = with_path(alloc, Word::Outside, daemon, path)?;
+    add_content(alloc, &mut line, content)?;
+    Ok(line)
+}
+
+fn report_line(
+    alloc: Global,
+    daemon: u64,
+    path: &SharedPath,
+    content: &Content,
+) -> Result<String, AllocError>
+    ensures { IfOk result (λ line. string_bytes line ≡ line_of (Move.Report daemon path.now content.now)) }
+{
+    let mut line = with_path(alloc, Word::Report, daemon, path)?;
+    add_content(alloc, &mut line, content)?;
     Ok(line)
 }
 
@@ -160,7 +179,7 @@ fn stop_line(alloc: Global, daemon: u64, call: u64, mode: Mode) -> Result<String
 }
 
 fn begin_line(alloc: Global, daemon: u64, conn: u64, speaker: Speaker) -> Result<String, AllocError>
-    ensures { IfOk result (λ line. string_bytes line ≡ name_of Word.Begin ++ written_all (Number ∷ Number ∷ spec.Speaks ∷ []) (daemon, (conn, (speaker, tt)))) }
+    ensures { IfOk result (λ line. string_bytes line ≡ spaced (name_of Word.Begin) (written (Number daemon) ∷ written (Number conn) ∷ written (Fixed (speaker_word speaker)) ∷ [])) }
 {
     let mut line = with_two(alloc, Word::Begin, daemon, conn)?;
     line.push(' ')?;
@@ -176,18 +195,15 @@ fn hear_line(alloc: Global, daemon: u64, conn: u64, bytes: &Blob) -> Result<Stri
     Ok(line)
 }
 
-/// The line that asks for the move, without an LF.
-///
-/// A script reads it as this move; a `Load` or a `Hear` without bytes has no line that a script reads.
+/// The line that is written for the move, without an LF. It asks for this move, unless the move is a `Load` or a
+/// `Hear` without bytes: no line asks for such a move.
 pub fn write_line(alloc: Global, moved: &Move) -> Result<String, AllocError>
     ensures { IfOk result (λ line. string_bytes line ≡ line_of moved.now) }
 {
     match moved {
         Move::Daemon(daemon) => with_number(alloc, Word::Daemon, *daemon),
         Move::Load(daemon, base, disk) => load_line(alloc, *daemon, base, disk),
-        Move::Editor(editor, daemon, path, text) => editor_line(
-            alloc, *editor, *daemon, path, text,
-        ),
+        Move::Editor(index, daemon, path, text) => editor_line(alloc, *index, *daemon, path, text),
         Move::Typed(editor, place, gone, text) => typed_line(alloc, *editor, *place, *gone, text),
         Move::Up(editor) => with_number(alloc, Word::Up, *editor),
         Move::Down(editor) => with_number(alloc, Word::Down, *editor),
@@ -203,21 +219,9 @@ pub fn write_line(alloc: Global, moved: &Move) -> Result<String, AllocError>
         Move::Copy(from, to, frame) => with_three(alloc, Word::Copy, *from, *to, *frame),
         Move::Sync(from, to, most) => with_three(alloc, Word::Sync, *from, *to, *most),
         Move::Unlink(from, to) => with_two(alloc, Word::Unlink, *from, *to),
-        Move::Outside(daemon, path, content) => with_content(
-            alloc,
-            Word::Outside,
-            *daemon,
-            path,
-            content,
-        ),
+        Move::Outside(daemon, path, content) => outside_line(alloc, *daemon, path, content),
         Move::Sweep(daemon) => with_number(alloc, Word::Sweep, *daemon),
-        Move::Report(daemon, path, content) => with_content(
-            alloc,
-            Word::Report,
-            *daemon,
-            path,
-            content,
-        ),
+        Move::Report(daemon, path, content) => report_line(alloc, *daemon, path, content),
         Move::Disk(daemon, path) => with_path(alloc, Word::Disk, *daemon, path),
         Move::Crash(daemon) => with_number(alloc, Word::Crash, *daemon),
         Move::Restart(daemon) => with_number(alloc, Word::Restart, *daemon),

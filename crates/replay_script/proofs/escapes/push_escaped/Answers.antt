@@ -1,5 +1,5 @@
 use Rattle.std.proofs.Common.{◌≡◌, ◌++◌, List, ℕ, string_bytes, OnOk, sym, ap, ◌∙◌, subst}
-use Rattle.replay_script.specs.Quotes.{escape_of}
+use Rattle.replay_script.specs.Texts.{escape_of}
 use Rattle.replay_script.proofs.EscapeLemmas.{encodes-escape}
 use Rattle.replay_script.proofs.escapes.push_escaped.Goals as goal
 

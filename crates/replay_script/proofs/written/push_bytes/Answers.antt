@@ -3,14 +3,14 @@ use Rattle.std.specs.Str.{IsUtf8, chars, is_utf8}
 use Rattle.std.proofs.lemmas.Bool.{cases_Bool}
 use Rattle.std.proofs.lemmas.Str.{is_utf8-from_IsUtf8, IsUtf8-from_is_utf8}
 use Rattle.hex.specs.Hex.{encode_lower}
-use Rattle.replay_script.specs.Contents.{bytes_text}
-use Rattle.replay_script.specs.Quotes.{quoted}
+use Rattle.replay_script.specs.Grammar.{file_text}
+use Rattle.replay_script.specs.Texts.{quoted}
 use Rattle.replay_script.proofs.written.push_bytes.Goals as goal
 
-bytes_quoted : (bytes text : List ℕ) → text ≡ bytes → IsUtf8 bytes → bytes_text bytes ≡ quoted (chars text)
+bytes_quoted : (bytes text : List ℕ) → text ≡ bytes → IsUtf8 bytes → file_text bytes ≡ quoted (chars text)
 bytes_quoted bytes text same utf8 = rw (is_utf8-from_IsUtf8 bytes utf8) (ap (λ t. quoted (chars t)) (sym same))
 
-bytes_in_hex : (bytes : List ℕ) → (IsUtf8 bytes → ⊥) → bytes_text bytes ≡ codes "hex " ++ encode_lower bytes
+bytes_in_hex : (bytes : List ℕ) → (IsUtf8 bytes → ⊥) → file_text bytes ≡ codes "hex " ++ encode_lower bytes
 bytes_in_hex bytes none =
     elim (cases_Bool (is_utf8 bytes)) [
       | inl good ↦ absurd (none (IsUtf8-from_is_utf8 bytes good))

@@ -5,7 +5,7 @@ use Rattle.std.specs.Str.{chars}
 use Rattle.std.proofs.lemmas.Iterator.{YieldsList-from_chars}
 use Rattle.std.proofs.lemmas.Iterator.Consumers.{YieldsList-end}
 use Rattle.std.proofs.lemmas.List.{map-id}
-use Rattle.replay_script.specs.Quotes.{escaped}
+use Rattle.replay_script.specs.Texts.{escaped}
 use Rattle.replay_script.proofs.EscapeLemmas.{written_more}
 use Rattle.replay_script.proofs.written.push_characters.Goals as goal
 

@@ -1,13 +1,13 @@
-use Rattle.std.proofs.Common.{◌≡◌, [], ◌∷◌, ◌++◌, sym, ap, ◌∙◌, append_assoc}
+use Rattle.std.proofs.Common.{[], ◌∷◌, ◌++◌, sym, ap, ◌∙◌, ◌≡◌}
 use Rattle.std.specs.Prelude.{option_to_list}
 use Rattle.std.proofs.lemmas.Iterator.{YieldsList-from_chars}
 use Rattle.std.proofs.lemmas.Iterator.Consumers.{YieldsList-end}
-use Rattle.std.proofs.lemmas.List.{map-id}
+use Rattle.std.proofs.lemmas.List.{append-nil, map-id}
 use Rattle.std.specs.Str.{chars}
 use Rattle.replay_script.specs.Quotes.{given_by}
 use Rattle.replay_script.specs.declared.escapes.Place.TheVariants.{Between}
-use Rattle.replay_script.proofs.EscapeLemmas.{append-nil, one_more}
-use Rattle.replay_script.proofs.quotes.push_unescaped.Goals as goal
+use Rattle.replay_script.proofs.EscapeLemmas.{one_more}
+use Rattle.replay_script.proofs.quotes.unescaped.Goals as goal
 
 pub loop-ch-preserved-in-Continue-1 : goal.loop-ch-preserved-in-Continue-1
 loop-ch-preserved-in-Continue-1 c =
@@ -16,10 +16,9 @@ loop-ch-preserved-in-Continue-1 c =
     record {
       place = step.place;
       text =
-          c.in_ok-push.ensures.ok
+          c.in_ok-push.ensures.items
           ∙ ap (λ t. t ++ c.in-Some-given.given ∷ []) c.loop-ch.invariant.text
-          ∙ append_assoc c.args.text.now before (c.in-Some-given.given ∷ [])
-          ∙ ap (λ t. c.args.text.now ++ t) (sym (step.given ∙ ap (λ o. before ++ option_to_list o) c.in-Some-given.is));
+          ∙ sym (step.given ∙ ap (λ o. before ++ option_to_list o) c.in-Some-given.is);
     }
 
 pub loop-ch-preserved : goal.loop-ch-preserved
@@ -27,10 +26,7 @@ loop-ch-preserved c =
     let step = one_more c.loop-ch.yielded c.loop-ch.place c.in-Some.ch c.step-step.result c.loop-ch.invariant.place c.step-step.ensures in
     let before = given_by Between c.loop-ch.yielded in
     let same = step.given ∙ ap (λ o. before ++ option_to_list o) c.in_default.is ∙ append-nil before in
-    record {
-      place = step.place;
-      text = c.loop-ch.invariant.text ∙ ap (λ t. c.args.text.now ++ t) (sym same);
-    }
+    record { place = step.place; text = c.loop-ch.invariant.text ∙ sym same }
 
 pub returns : goal.returns
 returns c =
