@@ -6,9 +6,8 @@ use Rattle.delta.specs.Cells.{Cells, applied, deleting, nothing}
 use Rattle.delta.proofs.CellsLemmas.{base_length-inserts, base_length-covers}
 use Rattle.delta.proofs.ApplyLemmas.{applied-replacing_all}
 use Rattle.transform.specs.Carried.{IsChain, applied_all, past_list}
-use Rattle.editor_bridge.specs.Link.{new_link, unshown}
-use Rattle.bridge_world.specs.Plain.{is_closed, Cause, NotOpen, OpenDone, Done, Failed, Mark, mark, news, aged_mark, Verdict, Accepts, Refuses, replacement_unless}
-use Rattle.bridge_world.specs.Plain.{first_deltas}
+use Rattle.editor_bridge.specs.Link.{new_link, unshown, replacement_unless, first_deltas}
+use Rattle.bridge_world.specs.Plain.{is_closed, Cause, NotOpen, OpenDone, Done, Failed, Mark, mark, news, aged_mark, Verdict, Accepts, Refuses}
 use Rattle.bridge_world.specs.Counted.{Message, Opens, Edits, Closes, Sent, Frame, Held, Editor, marks, down_of, answer, new_frame, aged_frame, answered, ended, linked, took}
 use Rattle.bridge_world.specs.Counted.{handled_by, effect_by}
 use Rattle.bridge_world.specs.Tie.{Stand, stand_of, client_of, Place, place, edited, after_message, MessageFits, AllFit, reached, Aims, Ordered, Good}

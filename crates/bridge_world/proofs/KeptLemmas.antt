@@ -9,7 +9,7 @@ use Rattle.std.specs.Prelude.{slice_get}
 use Rattle.bridge_world.specs.Plain.{State, Opening, Open, Closed, is_closed, Kind, OpenDone, Done, Failed, New, Old, Mark, Message, Opens, Edits, Closes, Sent, Link}
 use Rattle.bridge_world.specs.Plain.{Editor}
 use Rattle.bridge_world.specs.Plain.{typed_where, opened, closed, lost, aged, aged_mark, news, pushed_on, pushed, told, answered, ended, Verdict, Accepts, Refuses}
-use Rattle.bridge_world.specs.Plain.{first_deltas}
+use Rattle.editor_bridge.specs.Link.{first_deltas}
 use Rattle.bridge_world.specs.Plain.{handled_by, handled, effect, shown_first, shown_where, shown_on, edits_of, heard, delivered, delivered_first, mark, typed}
 use Rattle.bridge_world.specs.Room as R
 use Rattle.bridge_world.specs.Room.{Room, Move, at_editor, changed, told_of, new_plain, plain_step, run, empty_room}

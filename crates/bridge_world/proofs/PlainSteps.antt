@@ -4,9 +4,9 @@ use Rattle.std.specs.Option.{option_map}
 use Rattle.std.proofs.lemmas.List.{map-append}
 use Rattle.delta.specs.Cells.{Cells, applied}
 use Rattle.transform.specs.Carried.{list_past}
-use Rattle.editor_bridge.specs.Link.{issued}
+use Rattle.editor_bridge.specs.Link.{issued, first_deltas}
 use Rattle.bridge_world.specs.Plain as P
-use Rattle.bridge_world.specs.Plain.{Opening, Closed, is_closed, Kind, Done, New, mark, news, Verdict, Accepts, Refuses, first_deltas}
+use Rattle.bridge_world.specs.Plain.{Opening, Closed, is_closed, Kind, Done, New, mark, news, Verdict, Accepts, Refuses}
 use Rattle.bridge_world.specs.Counted as N
 use Rattle.bridge_world.specs.Counted.{Message, Opens, Edits, Closes, Sent, Frame, Held, Editor, plain_message, plain_sent, marks, base_of, down_of, plain_link, plain_of, answer}
 use Rattle.bridge_world.specs.Counted.{new_frame, aged_frame}

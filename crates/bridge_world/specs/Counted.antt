@@ -7,13 +7,13 @@
 use Rattle.std.specs.Prelude.{ℕ, ◌+◌, ◌==◌, Bool, true, false, List, [], ◌∷◌, ◌++◌, map, Option, Some, None}
 use Rattle.std.specs.Option.{option_map}
 use Rattle.delta.specs.Cells.{Cells, applied, nothing, changes_nothing}
-use Rattle.editor_bridge.specs.Link.{Link, new_link, editor_text, unshown, with_pushed, with_edit, carried_edit}
+use Rattle.editor_bridge.specs.Link.{Link, new_link, editor_text, unshown, with_pushed, with_edit, carried_edit, first_deltas}
 use Rattle.editor_bridge.specs.Faults.{edit_fault}
 use Rattle.editor_bridge.specs.declared.faults.BridgeFault.{BridgeFault}
 use Rattle.bridge_world.specs.Lists.{unless}
 use Rattle.bridge_world.specs.Plain as P
 use Rattle.bridge_world.specs.Plain.{State, Opening, Open, Closed, is_closed, NotOpen, AlreadyOpen, BadRevision, Kind, OpenDone, Done, Failed, New, Old, aged, aged_mark, Mark}
-use Rattle.bridge_world.specs.Plain.{mark, Verdict, Accepts, Refuses, first_deltas}
+use Rattle.bridge_world.specs.Plain.{mark, Verdict, Accepts, Refuses}
 
 -- an edit says how many of the daemon's deltas its editor had shown
 pub data Message : Type 0 where

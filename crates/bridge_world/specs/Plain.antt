@@ -5,9 +5,9 @@
 -- nothing of its own is under way (the client and the server of the Jupiter system: Nichols, Curtis, Dixon
 -- and Lamping, 1995; sessions, refusals and their order are the project's own).
 use Rattle.std.specs.Prelude.{ℕ, ◌+◌, ◌==◌, Bool, true, false, List, [], ◌∷◌, ◌++◌, length, map, Option, Some, None}
-use Rattle.std.specs.Str.{bytes_eq}
-use Rattle.delta.specs.Cells.{Cells, applied, inserts, deleting, changes_nothing}
+use Rattle.delta.specs.Cells.{Cells, applied, changes_nothing}
 use Rattle.transform.specs.Carried.{past_list, list_past}
+use Rattle.editor_bridge.specs.Link.{first_deltas}
 use Rattle.bridge_world.specs.Lists.{unless}
 
 -- whether an editor has asked for its text, has been answered, or has closed it
@@ -136,15 +136,6 @@ answered s kind e = record e { wire = e.wire ++ mark s kind ∷ [] }
 -- a message has an answer, and the link ends
 abbrev pub ended : ℕ → Kind → Editor → Editor
 ended s kind e = record e { link = None; wire = map aged_mark e.wire ++ mark s kind ∷ [] }
-
--- one replacement by the daemon's text, or nothing
-abbrev pub replacement_unless : Bool → List ℕ → List ℕ → List Cells
-replacement_unless true content view = []
-replacement_unless false content view = inserts view (deleting (length content)) ∷ []
-
--- what follows an open at once: one replacement by the daemon's text, unless the editor has that text
-abbrev pub first_deltas : List ℕ → List ℕ → List Cells
-first_deltas content view = replacement_unless (bytes_eq content view) content view
 
 -- an open of this session is taken
 abbrev pub linked : ℕ → List ℕ → List Cells → Editor → Editor

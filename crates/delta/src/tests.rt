@@ -107,6 +107,20 @@ fn deltas_of_many_steps_apply_in_place(rt: HostRuntime) -> Result<(), Fail> {
 
 /// Also of 100 changes, and of a text of more than 4,096 characters.
 #[test]
+fn deltas_of_many_steps_apply_at_once(rt: HostRuntime) -> Result<(), Fail> {
+    let alloc = rt.alloc();
+    for count in [3, 100, 1000] {
+        let mut changed = repeated(alloc, "abc", count)?;
+        let delta = replacing_each(alloc, count, 2, "wxyz")?;
+        assert_eq!(rt; changed.len(), delta.base_length());
+        delta.apply_at_once(alloc, &mut changed)?;
+        assert_eq!(rt; changed, repeated(alloc, "abwxyz", count)?);
+    }
+    Ok(())
+}
+
+/// Also of 100 changes, and of a text of more than 4,096 characters.
+#[test]
 fn deltas_of_many_steps_apply_in_turn(rt: HostRuntime) -> Result<(), Fail> {
     let alloc = rt.alloc();
     for (count, steps) in [(3, 9), (100, 300), (1000, 3000)] {

@@ -6,9 +6,9 @@ use Rattle.delta.specs.Cells.{Cells, base_length, result_length, applied}
 use Rattle.delta.proofs.LawLemmas.{length-applied}
 use Rattle.transform.specs.Carried.{IsChain, applied_all, chain_end, past_list, list_past}
 use Rattle.transform.proofs.MergedLemmas.{list_stays_chain, result_length-past_list}
-use Rattle.transform.proofs.ChainLemmas.{applied_all-push, applied_all-take_more, chain_end-push, IsChain-push, IsChain-take, IsChain-drop, length-applied_all}
+use Rattle.transform.proofs.ChainLemmas.{applied_all-push, applied_all-take_more, chain_end-push, chain_end-take-drop, IsChain-push, IsChain-take, IsChain-drop, length-applied_all}
 use Rattle.transform.proofs.ListLemmas.{length-list_past}
-use Rattle.editor_bridge.specs.Link.{Link, editor_text, unshown, with_edit}
+use Rattle.editor_bridge.specs.Link.{Link, editor_text, unshown, with_confirmed, with_edit}
 use Rattle.editor_bridge.specs.Frames.{frames}
 use Rattle.editor_bridge.specs.declared.carrying.Carried.{Carried}
 use Rattle.editor_bridge.specs.Carrying.{AreInTurn, StandsFor, IsBridge, CanTake, IsCarried}
@@ -127,3 +127,25 @@ pub view-take : (l : Link) (seen : ℕ) (p : Cells) (c : Carried) (issued : ℕ)
 view-take l seen p c issued next chain few is h next_is =
     link_of_parts (l.taken + 1) next _ c.queue _ (issued - length c.queue) seen
     (next_is ∙ carried_text l seen p c chain h) h.queue (omega (arith, length-left l seen p c h, is, few, h.can.back))
+
+-- the first deltas of the queue are confirmed
+
+pub IsBridge-confirm : (base : List ℕ) (queue next : List Cells) (issued long shown : ℕ) (after : List ℕ) → IsBridge base queue issued long
+    → after ≡ applied_all (take shown queue) base → next ≡ drop shown queue → IsBridge after next issued long
+IsBridge-confirm base queue next issued long shown after keeps after_is next_is =
+    let size : length after ≡ chain_end (length base) (take shown queue) =
+    ap length after_is ∙ length-applied_all (take shown queue) base (IsChain-take shown (length base) queue keeps.chain) in
+    subst (λ q. IsBridge after q issued long) (sym next_is)
+    (record {
+      few = omega (arith, keeps.few, length-drop shown queue);
+      chain = subst (λ n. IsChain n (drop shown queue)) (sym size) (IsChain-drop shown (length base) queue keeps.chain);
+      long = keeps.long ∙ sym (chain_end-take-drop shown (length base) queue) ∙ ap (λ n. chain_end n (drop shown queue)) (sym size);
+    })
+
+pub view-confirm : (l : Link) (seen shown issued : ℕ) (after : List ℕ) (next : List Cells) → length l.unconfirmed ≤ issued → l.confirmed ≡ issued - length l.unconfirmed
+    → l.confirmed ≤ seen → shown ≡ seen - l.confirmed → shown ≤ length l.unconfirmed → after ≡ applied_all (take shown l.unconfirmed) l.base → next ≡ drop shown l.unconfirmed
+    → record { base = after; unconfirmed = next; confirmed = issued - length next; taken = l.taken } ≡ with_confirmed seen l
+view-confirm l seen shown issued after next few is back shown_is within after_is next_is =
+    let left : issued - length next ≡ seen = omega (arith, ap length next_is, length-drop shown l.unconfirmed, few, is, back, shown_is, within) in
+    link_of_parts l.taken after (editor_text seen l) next (unshown seen l) (issued - length next) seen
+    (after_is ∙ ap (λ n. applied_all (take n l.unconfirmed) l.base) shown_is) (next_is ∙ ap (λ n. drop n l.unconfirmed) shown_is) left

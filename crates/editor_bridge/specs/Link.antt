@@ -3,8 +3,9 @@
 -- An editor's edit carries how many of the daemon's deltas the editor had shown, and a frame of the
 -- daemon how many of the editor's deltas the daemon had taken. These are the two message numbers of the
 -- Jupiter system (Nichols, Curtis, Dixon and Lamping, 1995). Both count from 0 when the link begins.
-use Rattle.std.specs.Prelude.{ℕ, ◌+◌, ◌-◌, List, [], ◌∷◌, ◌++◌, length, take, drop}
-use Rattle.delta.specs.Cells.{Cells, applied}
+use Rattle.std.specs.Prelude.{ℕ, ◌+◌, ◌-◌, Bool, true, false, List, [], ◌∷◌, ◌++◌, length, take, drop}
+use Rattle.std.specs.Str.{bytes_eq}
+use Rattle.delta.specs.Cells.{Cells, applied, inserts, deleting}
 use Rattle.transform.specs.Carried.{applied_all, list_past, past_list}
 
 -- a link: the editor's text when it had shown as many of the daemon's deltas as it has confirmed, the
@@ -65,3 +66,12 @@ with_edit seen p l = with_taken p (with_confirmed seen l)
 -- what that p is in the daemon's text
 abbrev pub carried_edit : ℕ → Cells → Link → Cells
 carried_edit seen p l = past_list p (unshown seen l)
+
+-- one replacement by the daemon's text, or nothing
+abbrev pub replacement_unless : Bool → List ℕ → List ℕ → List Cells
+replacement_unless true content view = []
+replacement_unless false content view = inserts view (deleting (length content)) ∷ []
+
+-- what follows an open at once: one replacement by the daemon's text, unless the editor has that text
+abbrev pub first_deltas : List ℕ → List ℕ → List Cells
+first_deltas content view = replacement_unless (bytes_eq content view) content view

@@ -1,17 +1,18 @@
-ghost use Rattle.std.specs.Prelude.{◌≡◌, ◌+◌, ◌-◌, ◌^◌, ◌<◌, ◌≤◌, length, take, Some, None, IfOk, IfErr, OnOk, OnErr};
+ghost use Rattle.std.specs.Prelude.{◌≡◌, ◌≢◌, ◌+◌, ◌-◌, ◌^◌, ◌<◌, ◌≤◌, length, take, Some, None, IfOk, IfErr, OnOk, OnErr};
 ghost use Rattle.delta.specs.Cells.{base_length};
 ghost use Rattle.transform.specs.Carried.{applied_all};
-ghost use Rattle.editor_bridge.specs.Link.{new_link, issued, daemon_length, editor_text, with_pushed, with_edit, carried_edit};
+ghost use Rattle.editor_bridge.specs.Link.{new_link, issued, daemon_length, editor_text, with_pushed, with_confirmed, with_edit, carried_edit};
 ghost use Rattle.editor_bridge.specs.Faults.{revision_fault, edit_fault, fault_named};
 ghost use Rattle.editor_bridge.specs.Frames.{frames};
-ghost use Rattle.editor_bridge.specs.Carrying.{IsCarried};
+ghost use Rattle.editor_bridge.specs.Carrying.{StandsFor, IsCarried};
 
-use crate::carrying::{Carried, carry, change, compose_all};
+use crate::carrying::{Carried, carry, compose_all, without_first};
 use crate::faults::BridgeFault;
 use crate::frames::BridgeFrame;
 use delta::Delta;
 use std::alloc::{AllocError, Global};
 use std::marker::Model;
+use std::mem::replace;
 use tt_base::{List, Text};
 
 /// An editor's delta that a bridge has taken.
@@ -131,9 +132,20 @@ impl Bridge {
         }
     }
 
+    /// The first deltas of the queue, as one.
+    fn shown_deltas(&self, alloc: Global, shown: usize) -> Result<Delta, AllocError>
+        requires some { shown ≢ 0 }
+        requires within { shown ≤ length self.now.unconfirmed }
+        ensures shown { IfOk result (StandsFor (take shown self.now.unconfirmed)) }
+        ensures base { IfOk result (λ all. base_length all ≡ length self.now.base) }
+    {
+        let queue = self.queue.as_slice();
+        compose_all(alloc, &queue[0], &queue[1..shown])
+    }
+
     /// The editor's text after `seen` of the daemon's deltas.
     ///
-    /// Where these are as many as it has confirmed, `confirmed_text` lends the text without a copy.
+    /// It is a copy. Where these are as many as it has confirmed, `confirmed_text` lends the text.
     pub fn editor_text(&self, alloc: Global, seen: u64) -> Result<Text, BridgeFault>
         ensures text { IfOk result (λ text. text ≡ editor_text seen self.now) }
         ensures fits { OnOk result (revision_fault seen self.now ≡ None) }
@@ -143,10 +155,30 @@ impl Bridge {
         if shown == 0 {
             return Ok(self.base.copied(alloc)?);
         }
-        let queue = self.queue.as_slice();
-        let all = compose_all(alloc, &queue[0], &queue[1..shown])?;
+        let all = self.shown_deltas(alloc, shown)?;
         let text = all.apply(alloc, &self.base)?;
         Ok(text)
+    }
+
+    /// The editor has shown `seen` of the daemon's deltas: these count as confirmed from then on, and
+    /// `confirmed_text` lends the editor's text after them.
+    ///
+    /// The base is changed in place. Any fault leaves the bridge as it was.
+    pub fn confirm(&mut self, alloc: Global, seen: u64) -> Result<(), BridgeFault>
+        ensures ok { OnOk result (self.new ≡ with_confirmed seen self.old) }
+        ensures fits { OnOk result (revision_fault seen self.old ≡ None) }
+        ensures fault { IfErr result (λ fault. revision_fault seen self.old ≡ fault_named fault) }
+        ensures err { OnErr result (self.new ≡ self.old) }
+    {
+        let shown = self.shown_of_queue(seen)?;
+        if shown == 0 {
+            return Ok(());
+        }
+        let all = self.shown_deltas(alloc, shown)?;
+        all.apply_at_once(alloc, &mut self.base)?;
+        let queue = replace(&mut self.queue, List::from_vec(Vec::new(alloc)));
+        self.queue = without_first(queue, shown);
+        Ok(())
     }
 
     /// Tells the editor that the daemon's text has changed by `d`, otherwise than by a delta of its own.
@@ -187,7 +219,8 @@ impl Bridge {
 
     /// Takes a delta of the editor, made when it had shown `seen` of the daemon's deltas.
     ///
-    /// These count as confirmed from then on. Any fault leaves the bridge as it was.
+    /// These count as confirmed from then on. The base is changed in place. Any fault leaves the bridge as it
+    /// was.
     pub fn take(&mut self, alloc: Global, seen: u64, p: Delta) -> Result<Taken, BridgeFault>
         requires { self.old.taken < 2 ^ 64 - 1 }
         ensures ok { OnOk result (self.new ≡ with_edit seen p self.old) }
@@ -198,7 +231,7 @@ impl Bridge {
         ensures err { OnErr result (self.new ≡ self.old) }
     {
         let carried = self.carried(alloc, seen, p)?;
-        change(alloc, &mut self.base, &carried.change)?;
+        carried.change.apply_at_once(alloc, &mut self.base)?;
         self.text_length = carried.delta.result_length();
         self.queue = carried.queue;
         self.taken += 1;

@@ -1,5 +1,5 @@
-ghost use Rattle.std.specs.Prelude.{◌≡◌, ◌≤◌, ◌++◌, ◌∷◌, [], length, take, drop, IfOk, OnOk, OnErr};
-ghost use Rattle.delta.specs.Cells.{base_length, applied};
+ghost use Rattle.std.specs.Prelude.{◌≡◌, ◌≤◌, ◌++◌, ◌∷◌, [], length, take, drop, IfOk};
+ghost use Rattle.delta.specs.Cells.{base_length};
 ghost use Rattle.transform.specs.Carried.{IsChain, past_list, list_past};
 ghost use Rattle.editor_bridge.specs.Frames.{frames};
 ghost use Rattle.editor_bridge.specs.Carrying.{AreInTurn, StandsFor};
@@ -8,17 +8,7 @@ use crate::frames::{BridgeFrame, frames_of};
 use delta::{Delta, compose};
 use std::alloc::{AllocError, Global};
 use transform::pass_list;
-use tt_base::{List, Text};
-
-/// Changes a text. After want of memory the text is as before.
-pub(crate) fn change(alloc: Global, text: &mut Text, delta: &Delta) -> Result<(), AllocError>
-    requires { base_length delta.now ≡ length text.old }
-    ensures ok { OnOk result (text.new ≡ applied delta.now text.old) }
-    ensures err { OnErr result (text.new ≡ text.old) }
-{
-    *text = delta.apply(alloc, text)?;
-    Ok(())
-}
+use tt_base::List;
 
 /// Deltas that apply one after the other, as one delta.
 pub(crate) fn compose_all(alloc: Global, first: &Delta, rest: &[Delta]) -> Result<Delta, AllocError>
@@ -43,6 +33,18 @@ fn compose_with(alloc: Global, shown: &[Delta], p: &Delta) -> Result<Delta, Allo
         let all = compose_all(alloc, &shown[0], &shown[1..])?;
         compose(alloc, &all, p)
     }
+}
+
+/// The deltas of a queue behind its first ones, in the queue's memory.
+pub(crate) fn without_first(queue: List<Delta>, shown: usize) -> List<Delta>
+    requires { shown ≤ length queue }
+    ensures { result ≡ drop shown queue }
+{
+    let left = queue.len() - shown;
+    let mut deltas = queue.into_vec();
+    deltas.rotate_left(shown);
+    deltas.truncate(left);
+    List::from_vec(deltas)
 }
 
 /// What an editor's delta makes of a link.

@@ -1,5 +1,5 @@
 use super::*;
-use delta::{Delta, DeltaBuilder};
+use delta::{Delta, DeltaBuilder, replace_all};
 use std::alloc::{AllocError, Global};
 use std::test::Fail;
 use tt_base::Text;
@@ -80,6 +80,49 @@ fn knows_the_texts_of_its_editor(rt: HostRuntime) -> Result<(), Fail> {
         );
     }
     assert_eq!(rt; bridge.confirmed_text().len(), 3);
+    Ok(())
+}
+
+#[test]
+fn confirms_without_an_edit(rt: HostRuntime) -> Result<(), Fail> {
+    let alloc = rt.alloc();
+    let mut bridge = with_x(alloc)?;
+    assert_eq!(rt;
+        bridge.confirm(alloc, 2).err(),
+        Some(BridgeFault::RevisionAhead(2, 1))
+    );
+    bridge.confirm(alloc, 0)?;
+    bridge.confirm(alloc, 1)?;
+    assert_eq!(rt; *bridge.confirmed_text(), Text::from_str(alloc, "aXb")?);
+    assert_eq!(rt;
+        bridge.confirm(alloc, 0).err(),
+        Some(BridgeFault::RevisionBack(0, 1))
+    );
+    Ok(())
+}
+
+/// So many of a character.
+fn repeated(alloc: Global, character: char, count: u16) -> Result<Text, AllocError> {
+    let mut all = Vec::new(alloc);
+    for _ in 0..count {
+        all.push(character)?;
+    }
+    Text::from_vec(alloc, all)
+}
+
+#[test]
+fn keeps_long_texts(rt: HostRuntime) -> Result<(), Fail> {
+    let alloc = rt.alloc();
+    let mut bridge = Bridge::new(alloc, repeated(alloc, 'a', 5000)?)?;
+    let b = repeated(alloc, 'b', 6000)?;
+    push(alloc, &mut bridge, replace_all(alloc, 5000, &b)?)?;
+    assert_eq!(rt; bridge.editor_text(alloc, 1)?, b);
+    bridge.confirm(alloc, 1)?;
+    assert_eq!(rt; *bridge.confirmed_text(), b);
+    let c = repeated(alloc, 'c', 7000)?;
+    let taken = take(alloc, &mut bridge, 1, replace_all(alloc, 6000, &c)?)?;
+    assert_eq!(rt; taken.carried.result_length(), 7000);
+    assert_eq!(rt; *bridge.confirmed_text(), c);
     Ok(())
 }
 

@@ -3,7 +3,7 @@ use Rattle.std.proofs.Common.{◌≡◌, ℕ, suc, ◌+◌, ◌-◌, ◌≤◌, 
 use Rattle.std.proofs.Common.{drop, Option, Some, None, Result, Ok, Err, nat_le, refl, sym, ap, subst, ◌∙◌, ◌⊎◌, inl, inr, arith}
 use Rattle.std.specs.Prelude.{if◌then◌else◌}
 use Rattle.std.proofs.lemmas.List.{drop-drop, length-drop}
-use Rattle.std.proofs.lemmas.Bool.{leb-true, leb-false, lt-leb}
+use Rattle.std.proofs.lemmas.Bool.{leb-true, leb-false, le-leb, lt-leb}
 use Rattle.tt_base.specs.Answers.{and_then}
 use Rattle.tt_base.specs.declared.edits.Position.{Position}
 use Rattle.tt_base.specs.declared.edits.TextEdit.{TextEdit}
@@ -13,12 +13,13 @@ use Rattle.delta.proofs.CellsLemmas.{base_length-covers}
 use Rattle.delta.proofs.ApplyLemmas.{applied-inserts, applied-kept, applied-deleted, applied-keeping}
 use Rattle.delta.proofs.ComposedLemmas.{applied-composed, base_length-composed, composed-keeping}
 use Rattle.delta.proofs.NormalLemmas.{normal_is_fixed}
-use Rattle.text_position.specs.Places.{IsPlace, offset_at}
+use Rattle.text_position.specs.Places.{IsPlace, offset_at, position_at}
+use Rattle.text_position.specs.Changes.{Change, edit_for}
 use Rattle.text_position.specs.Edits.{replacing, range_between, delta_of_edit, with_edits, delta_of_edits, LeadInTurn}
 use Rattle.text_position.specs.declared.faults.EditsFault.TheVariants.{BadPosition, BackwardRange, Memory}
 use Rattle.text_position.specs.Laws.{IsNoRange, IsRefusedAt}
 use Rattle.text_position.specs.declared.faults.EditsFault.{EditsFault}
-use Rattle.text_position.proofs.PlacesLemmas.{offset_at-place, place-offset_at, place-within, no_place}
+use Rattle.text_position.proofs.PlacesLemmas.{offset_at-place, offset_at-position_at, place-offset_at, place-within, no_place}
 use Rattle.text_position.proofs.EditLemmas.{base_length-replacing, IsNormal-replacing}
 use Rattle.text_position.proofs.RoundTripLemmas.{with_edits-append}
 
@@ -231,3 +232,31 @@ pub first_gives_refusal : (text : List ℕ) (edits : List TextEdit) (edit : Text
     → (delta_of_edit 0 text edit ≡ Err fault) ⊎ (fault ≡ Memory) → (delta_of_edits text edits ≡ Err fault) ⊎ (fault ≡ Memory)
 first_gives_refusal text edits edit rest fault cut (inl is) = inl (ap (delta_of_edits text) cut ∙ first_refused text edit rest fault is)
 first_gives_refusal text edits edit rest fault cut (inr memory) = inr memory
+
+-- the delta of edits is for the text that they are for
+base_length-with_edits : (index : ℕ) (text : List ℕ) (so_far : Cells) (edits : List TextEdit) (d : Cells) → with_edits index text so_far edits ≡ Ok d → base_length d ≡ base_length so_far
+base_length-with_edits index text so_far [] d e = let is : d ≡ so_far = cc in ap base_length is
+base_length-with_edits index text so_far (edit ∷ edits) d e =
+    by_edit (delta_of_edit index (applied so_far text) edit) e (λ (x : Cells). base_length-with_edits (index + 1) text (composed so_far x) edits d) where
+      by_edit : (r : Result Cells EditsFault) → and_then r (λ x. with_edits (index + 1) text (composed so_far x) edits) ≡ Ok d
+          → ((x : Cells) → with_edits (index + 1) text (composed so_far x) edits ≡ Ok d → base_length d ≡ base_length (composed so_far x)) → base_length d ≡ base_length so_far
+      by_edit (Err fault) e rest = absurd (cc)
+      by_edit (Ok x) e rest = rest x e ∙ base_length-composed so_far x
+
+pub base_length-edits : (text : List ℕ) (edits : List TextEdit) (d : Cells) → delta_of_edits text edits ≡ Ok d → base_length d ≡ length text
+base_length-edits text edits d is =
+    base_length-with_edits 0 text (keeping (length text)) edits d is ∙ omega (arith, base_length-covers true (length text) nothing)
+
+-- the edit of one change has the change as its delta
+delta_of_change : (text : List ℕ) (change : Change) → change.start ≤ change.end → change.end ≤ length text
+    → delta_of_edit 0 text (edit_for text change) ≡ Ok (replacing (length text) change.start change.end change.text)
+delta_of_change text change forward within =
+    let next : (ℕ × ℕ) → Result Cells EditsFault = λ range. Ok (replacing (length text) range.0 range.1 change.text) in
+    ap (λ s. and_then (range_between 0 s (offset_at text (position_at text change.end))) next) (offset_at-position_at text change.start (omega arith))
+    ∙ ap (λ e. and_then (range_between 0 (Some change.start) e) next) (offset_at-position_at text change.end within)
+    ∙ ap (λ b. and_then (if b then Ok (change.start, change.end) else Err (BackwardRange 0)) next) (le-leb change.start change.end forward)
+
+pub delta_of_one_edit : (text : List ℕ) (change : Change) → change.start ≤ change.end → change.end ≤ length text
+    → delta_of_edits text (edit_for text change ∷ []) ≡ Ok (replacing (length text) change.start change.end change.text)
+delta_of_one_edit text change forward within =
+    sym (first_edit text (edit_for text change) [] (replacing (length text) change.start change.end change.text) (delta_of_change text change forward within))

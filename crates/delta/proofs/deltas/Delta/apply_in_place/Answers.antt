@@ -24,7 +24,7 @@ loop-step-preserved c =
     let after = c.change_step.new.text in
     let done = c.in_ok-place.ensures in record {
       whole =
-          applied-step steps l.step-index step (take l.place l.text) (take next after) (drop l.place l.text) (drop next after) _ c.loop-step-test.true c.step-item.is l.invariant.base
+          applied-step steps l.step-index step (take l.place l.text) (take next after) (drop l.place l.text) (drop next after) _ c.loop-step-test.true c.step-item.is (omega (arith, l.invariant.base))
           done.said done.left l.invariant.whole;
       base =
           omega (arith, l.invariant.base, base_length-step steps l.step-index step c.loop-step-test.true c.step-item.is, ap length done.left, length-drop (step_base step) (drop l.place l.text));
