@@ -1,0 +1,7 @@
+mod Rows
+pub mod FileLemmas
+pub mod LinkLemmas
+pub mod MapLemmas
+pub mod StepLemmas
+pub mod MessageLemmas
+pub mod ServeLemmas

@@ -1,0 +1,101 @@
+-- What a message makes of the links, by what it does: nothing, a file opened, an edit taken, or a link gone.
+use Rattle.std.proofs.Common.{◌≡◌, ℕ, ◌+◌, ◌≤◌, Bool, true, false, cond, not, List, [], ◌∷◌, length, map, filter, Option, Some, None, refl, sym, ap, ◌∙◌, subst, arith}
+use Rattle.std.specs.BTreeMap.{is_at, insert_entry}
+use Rattle.std.specs.Cmp.Lexicographic.{slice_cmp, nat_list_cmp_total}
+use Rattle.std.specs.Map.{lookup}
+use Rattle.std.specs.Option.{option_map, unwrap_or}
+use Rattle.std.specs.Ordering.{nat_cmp}
+use Rattle.std.specs.Prelude.{if◌then◌else◌}
+use Rattle.std.specs.Str.{bytes_eq}
+use Rattle.std.proofs.lemmas.Slice.Eq.{bytes_eq-Decides}
+use Rattle.delta.specs.Cells.{Cells, base_length, applied, inserting, inserts, deleting, nothing, changes_nothing}
+use Rattle.delta.proofs.CellsLemmas.{base_length-covers}
+use Rattle.transform.specs.Carried.{IsChain, applied_all}
+use Rattle.editor_bridge.specs.Link.{Link, new_link, issued, with_pushed, with_edit, carried_edit}
+use Rattle.bridge_world.specs.Plain.{first_deltas, replacement_unless}
+use Rattle.daemon_core.specs.History.{History, is_path, view_at, text_at, made}
+use Rattle.daemon_core.specs.Laws.{IsLinked}
+use Rattle.daemon_core.specs.Outcome.{LinkEvent, Stays, Opened, Taken, Gone, Effect, Outcome, effects_of, opened_link, own_links, told_links, links_after}
+use Rattle.daemon_core.specs.State.{Links, State, is_number, link_at, links_of, link_of, at_path}
+use Rattle.daemon_core.proofs.FileLemmas.{text_made, text_elsewhere, path_same, is_path_itself, is_path_back, lookup_put}
+use Rattle.daemon_core.proofs.LinkLemmas.{linked_told, linked_elsewhere, linked_untold, linked_took, MayTake}
+use Rattle.daemon_core.proofs.MapLemmas.{lookup_without, none_left, lookup_each}
+
+-- each link that is open is as it should be
+abbrev pub AllLinked : History → Links → Type 0
+AllLinked history links = (path : List ℕ) (link : Link) → link_at links path ≡ Some link → IsLinked history path link
+
+-- what an outcome owes: the links of its own connection, and of each other one, are as they should be
+pub record IsSound (s : State) (n : ℕ) (o : Outcome) : Type 0 where
+  pub own : AllLinked o.history (own_links o.own (links_of s n))
+  pub told : (links : Links) → AllLinked s.history links → AllLinked o.history (told_links o.effects links)
+
+-- a link ends
+pub gone_linked : (history : History) (path : List ℕ) (links : Links) → AllLinked history links
+    → AllLinked history (own_links (Gone path) links)
+gone_linked history path links h other link found = by (is_path path other) refl where
+  by : (b : Bool) → is_path path other ≡ b → IsLinked history other link
+  by true same =
+      let none : link_at (own_links (Gone path) links) other ≡ None =
+      subst (λ p. link_at (own_links (Gone path) links) p ≡ None) (path_same path other same) (none_left (is_path path) links) in
+      let never : None ≡ Some link = sym none ∙ found in cc
+  by false apart =
+      h other link
+      (lookup_without (is_path other) (is_path path) links link found
+      (λ k at_k. subst (λ p. is_path path p ≡ false) (path_same other k at_k) apart))
+
+-- a file is opened
+pub opened_linked : (history : History) (path : List ℕ) (new : Link) (links : Links) → IsLinked history path new
+    → ((other : List ℕ) (link : Link) → is_path path other ≡ false → link_at links other ≡ Some link → IsLinked history other link)
+    → AllLinked history (insert_entry (slice_cmp nat_cmp) links path new)
+opened_linked history path new links there elsewhere other link found = by (is_path other path) refl where
+  put : link_at (insert_entry (slice_cmp nat_cmp) links path new) other ≡ cond (is_path other path) (Some new) (link_at links other)
+  put = lookup_put (slice_cmp nat_cmp) nat_list_cmp_total path other new links
+
+  by : (b : Bool) → is_path other path ≡ b → IsLinked history other link
+  by true same =
+      let is : Some new ≡ Some link = sym (put ∙ ap (λ b. cond b (Some new) (link_at links other)) same) ∙ found in
+      let one : new ≡ link = cc in
+      subst (IsLinked history other) one (subst (λ p. IsLinked history p new) (sym (path_same other path same)) there)
+  by false apart =
+      elsewhere other link (is_path_back other path apart)
+      (sym (put ∙ ap (λ b. cond b (Some new) (link_at links other)) apart) ∙ found)
+
+-- what is found where the link at a path is changed
+at_path_found : (path : List ℕ) (f : Link → Link) (links : Links) (other : List ℕ)
+    → link_at (at_path path f links) other ≡ option_map (λ l. if is_path path other then f l else l) (link_at links other)
+at_path_found path f links other =
+    ap (λ es. link_at es other) (pointwise links)
+    ∙ lookup_each (is_path other) (λ k l. if is_path path k then f l else l) other (path_same other) links where
+      pair_if : (b : Bool) (k : List ℕ) (l : Link) → ◌≡◌ {A = List ℕ × Link} (if b then (k, f l) else (k, l)) (k, if b then f l else l)
+      pair_if true k l = refl
+      pair_if false k l = refl
+
+      pointwise : (es : Links) → at_path path f es ≡ map (λ (e : List ℕ × Link). (e.0, if is_path path e.0 then f e.1 else e.1)) es
+      pointwise [] = refl
+      pointwise (e ∷ es) = λ i. pair_if (is_path path e.0) e.0 e.1 i ∷ pointwise es i
+
+-- the link at a path is changed, and those elsewhere stay
+pub changed_linked : (history after : History) (path : List ℕ) (f : Link → Link) (links : Links) → AllLinked history links
+    → ((link : Link) → link_at links path ≡ Some link → IsLinked history path link → IsLinked after path (f link))
+    → ((other : List ℕ) (link : Link) → is_path path other ≡ false → IsLinked history other link → IsLinked after other link)
+    → AllLinked after (at_path path f links)
+changed_linked history after path f links h there elsewhere other link found =
+    by (link_at links other) refl (is_path path other) refl (sym (at_path_found path f links other) ∙ found) where
+      by : (found_before : Option Link) → link_at links other ≡ found_before → (b : Bool) → is_path path other ≡ b
+          → option_map (λ l. if is_path path other then f l else l) (link_at links other) ≡ Some link → IsLinked after other link
+      by None is b test e =
+          let never : None ≡ Some link = sym (ap (option_map (λ l. if is_path path other then f l else l)) is) ∙ e in cc
+      by (Some l) is true test e =
+          let one : Some (f l) ≡ Some link =
+          sym (ap (option_map (λ l. if is_path path other then f l else l)) is ∙ ap (λ b. Some (if b then f l else l)) test) ∙ e in
+          let same : f l ≡ link = cc in
+          let here : path ≡ other = path_same path other test in
+          subst (IsLinked after other) same
+          (subst (λ p. IsLinked after p (f l)) here
+          (there l (ap (link_at links) here ∙ is) (subst (λ p. IsLinked history p l) (sym here) (h other l is))))
+      by (Some l) is false test e =
+          let one : Some l ≡ Some link =
+          sym (ap (option_map (λ l. if is_path path other then f l else l)) is ∙ ap (λ b. Some (if b then f l else l)) test) ∙ e in
+          let same : l ≡ link = cc in
+          subst (IsLinked after other) same (elsewhere other l test (h other l is))

@@ -1,0 +1,7 @@
+pub mod History
+pub mod State
+pub mod Outcome
+pub mod Refusing
+pub mod Serving
+pub mod Outputs
+pub mod Laws
