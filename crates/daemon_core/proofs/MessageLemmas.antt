@@ -35,15 +35,14 @@ use Rattle.daemon_core.specs.Serving.{with_change, changed, opening, on_open, on
 use Rattle.daemon_core.specs.State.{Links, State, link_at, links_of, link_of}
 use Rattle.daemon_core.proofs.FileLemmas.{is_path_itself, text_made}
 use Rattle.daemon_core.proofs.LinkLemmas.{linked_told, linked_elsewhere, linked_untold, linked_took, MayTake, chain_left}
-use Rattle.daemon_core.proofs.StepLemmas.{AllLinked, IsSound, gone_linked, opened_linked, changed_linked}
+use Rattle.daemon_core.proofs.StepLemmas.{AllLinked, IsSound, IsChange, Quiet, Made, gone_linked, opened_linked, changed_linked}
 
 -- a message that changes no text
 quiet_sound : (s : State) (n : ℕ) (o : Outcome) → o.history ≡ s.history → o.effects ≡ []
     → AllLinked s.history (own_links o.own (links_of s n)) → IsSound s n o
 quiet_sound s n o same untold own = record {
   own = subst (λ h. AllLinked h (own_links o.own (links_of s n))) (sym same) own;
-  told = λ links h. subst (λ history. AllLinked history (told_links o.effects links)) (sym same)
-      (subst (λ (es : List Effect). AllLinked s.history (told_links es links)) (sym untold) h);
+  change = Quiet same untold;
 }
 
 -- a change of a text, told to all links of other connections
@@ -57,6 +56,16 @@ told_sound s path d fits links h = by (changes_nothing d) refl where
       changed_linked s.history (made s.history path d) path (with_pushed d) links h
       (λ link found l. linked_told s.history path d path link l (is_path_itself path) fits)
       (λ other link apart l. linked_elsewhere s.history path d other link l apart)
+
+-- whatever an outcome changes, the links that it tells are as they should be
+pub told_all : (s : State) (o : Outcome) → IsChange s o → (links : Links) → AllLinked s.history links
+    → AllLinked o.history (told_links o.effects links)
+told_all s o (Quiet same untold) links h =
+    subst (λ history. AllLinked history (told_links o.effects links)) (sym same)
+    (subst (λ (es : List Effect). AllLinked s.history (told_links es links)) (sym untold) h)
+told_all s o (Made path d fits same effects) links h =
+    subst (λ history. AllLinked history (told_links o.effects links)) (sym same)
+    (subst (λ (es : List Effect). AllLinked (made s.history path d) (told_links es links)) (sym effects) (told_sound s path d fits links h))
 
 -- what follows an open at once leads from its content to the daemon's text
 opened_here : (history : History) (path content view : List ℕ) → view ≡ text_at history path
@@ -137,12 +146,13 @@ changed_sound s n path d own if_refused fits taken refused =
           (or_refusal s
           (if b then Ok (with_change s path d own)
           else Err (record { refusal = TextTooLong (length (applied d (text_at s.history path))); own = if_refused })))
-      by true = record { own = taken; told = told_sound s path d fits }
+      by true = record { own = taken; change = Made path d fits refl refl }
       by false = refused_sound s n _ refused
 
-open_sound : (s : State) (n : ℕ) (uri content : List ℕ) → AllLinked s.history (links_of s n)
-    → IsSound s n (or_refusal s (on_open s n uri content))
-open_sound s n uri content h = by_path (path_of s.base uri) where
+-- a file is opened, by the text that it has or as a new one
+pub opening_sound : (s : State) (n : ℕ) (path content : List ℕ) → AllLinked s.history (links_of s n)
+    → IsSound s n (or_refusal s (opening s path content (view_at s.history path)))
+opening_sound s n path content h = by_view path (view_at s.history path) refl where
   by_view : (path : List ℕ) (view : Option (List ℕ)) → view_at s.history path ≡ view
       → IsSound s n (or_refusal s (opening s path content view))
   by_view path (Some view) is =
@@ -164,10 +174,13 @@ open_sound s n uri content h = by_path (path_of s.base uri) where
       (λ other link apart found. linked_elsewhere s.history path (inserting content) other link (h other link found) apart))
       h
 
+open_sound : (s : State) (n : ℕ) (uri content : List ℕ) → AllLinked s.history (links_of s n)
+    → IsSound s n (or_refusal s (on_open s n uri content))
+open_sound s n uri content h = by_path (path_of s.base uri) where
   by_link : (path : List ℕ) (link : Option Link)
       → IsSound s n (or_refusal s (no_link link >>= λ free. opening s path content (view_at s.history path)))
   by_link path (Some link) = refused_sound s n _ h
-  by_link path None = by_view path (view_at s.history path) refl
+  by_link path None = opening_sound s n path content h
 
   by_path : (r : Result (List ℕ) UriFault)
       → IsSound s n

@@ -13,22 +13,22 @@ use Rattle.rpc_message.specs.declared.faults.MessageFault.{MessageFault}
 use Rattle.rpc_message.specs.declared.faults.MessageFault.TheVariants as fault
 use Rattle.rpc_message.specs.declared.messages.Incoming.{Incoming}
 use Rattle.daemon_core.specs.Laws.{IsLinked, IsServing}
-use Rattle.daemon_core.specs.Outcome.{Outcome, Refuses, answers, own_links, told_links, links_after, state_after}
-use Rattle.daemon_core.specs.Outputs.{Served, heard, serve}
+use Rattle.daemon_core.specs.Outcome.{Outcome, Refuses, answers, own_links, told_links, links_after, state_after, state_told}
+use Rattle.daemon_core.specs.Outputs.{Served, outcome_of, heard, serve}
 use Rattle.daemon_core.specs.Serving.{on_message, or_refusal}
 use Rattle.daemon_core.specs.State.{Links, State, is_number, link_at, links_of, link_of}
-use Rattle.daemon_core.specs.declared.Event.{Event}
-use Rattle.daemon_core.specs.declared.Event.TheVariants.{EditorBegan, Ended, EditorFrame}
+use Rattle.daemon_core.specs.declared.events.Event.{Event}
+use Rattle.daemon_core.specs.declared.events.Event.TheVariants.{EditorBegan, Ended, EditorFrame}
 use Rattle.daemon_core.proofs.FileLemmas.{lookup_put}
 use Rattle.daemon_core.proofs.MapLemmas.{lookup_without, none_left, lookup_each, number_same}
-use Rattle.daemon_core.proofs.StepLemmas.{AllLinked, IsSound}
-use Rattle.daemon_core.proofs.MessageLemmas.{message_sound, stays_sound}
+use Rattle.daemon_core.proofs.StepLemmas.{AllLinked, IsSound, IsChange}
+use Rattle.daemon_core.proofs.MessageLemmas.{message_sound, stays_sound, told_all}
 
 -- what a connection has open, as a look-up finds it
 abbrev found_links : Option Links → Links
 found_links found = unwrap_or found []
 
-after_sound : (s : State) (n : ℕ) (o : Outcome) → IsServing s → IsSound s n o → IsServing (state_after s n o)
+pub after_sound : (s : State) (n : ℕ) (o : Outcome) → IsServing s → IsSound s n o → IsServing (state_after s n o)
 after_sound s n o h sound = record {
   linked = λ c path link found. by c path link (lookup (is_number c) s.connections) refl (sym (ap (λ ls. link_at ls path) (here c)) ∙ found);
 } where
@@ -41,14 +41,28 @@ after_sound s n o h sound = record {
       let same : links ≡ links_of s n = sym is ∙ ap (links_of s) (sym (number_same n c own)) in
       sound.own path link (ap (λ ls. link_at (own_links o.own ls) path) (sym same) ∙ found)
   of_links c path link links is false other found =
-      sound.told links (λ p l there. h.linked c p l (ap (λ ls. link_at ls p) is ∙ there)) path link found
+      told_all s o sound.change links (λ p l there. h.linked c p l (ap (λ ls. link_at ls p) is ∙ there)) path link found
 
   by : (c : ℕ) (path : List ℕ) (link : Link) (links : Option Links) → lookup (is_number c) s.connections ≡ links
       → link_at (found_links (option_map (links_after n o c) links)) path ≡ Some link → IsLinked o.history path link
   by c path link None is found = cc
   by c path link (Some links) is found = of_links c path link links (ap found_links is) (is_number n c) refl found
 
-began : (s : State) (n : ℕ) → IsServing s → IsServing (serve s (EditorBegan n)).state
+-- the same after a message that came on no connection of the daemon
+pub told_serving : (s : State) (o : Outcome) → IsServing s → IsChange s o → IsServing (state_told s o)
+told_serving s o h change = record {
+  linked = λ c path link found. by c path link (lookup (is_number c) s.connections) refl (sym (ap (λ ls. link_at ls path) (here c)) ∙ found);
+} where
+  here : (c : ℕ) → links_of (state_told s o) c ≡ found_links (option_map (told_links o.effects) (lookup (is_number c) s.connections))
+  here c = ap found_links (lookup_each (is_number c) (λ k. told_links o.effects) c (number_same c) s.connections)
+
+  by : (c : ℕ) (path : List ℕ) (link : Link) (links : Option Links) → lookup (is_number c) s.connections ≡ links
+      → link_at (found_links (option_map (told_links o.effects) links)) path ≡ Some link → IsLinked o.history path link
+  by c path link None is found = cc
+  by c path link (Some links) is found =
+      told_all s o change links (λ p l there. h.linked c p l (ap (λ ls. link_at (found_links ls) p) is ∙ there)) path link found
+
+pub began : (s : State) (n : ℕ) → IsServing s → IsServing (serve s (EditorBegan n)).state
 began s n h = record { linked = λ c path link found. by c path link (is_number c n) refl found } where
   put : (c : ℕ) → lookup (is_number c) (insert_entry nat_cmp s.connections n []) ≡ cond (is_number c n) (Some []) (lookup (is_number c) s.connections)
   put c = lookup_put nat_cmp nat_cmp_total n c [] s.connections
@@ -62,7 +76,7 @@ began s n h = record { linked = λ c path link found. by c path link (is_number 
       h.linked c path link
       (sym (ap (λ ls. link_at (found_links ls) path) (put c ∙ ap (λ b. cond b (Some []) (lookup (is_number c) s.connections)) old)) ∙ found)
 
-ended : (s : State) (n : ℕ) → IsServing s → IsServing (serve s (Ended n)).state
+pub ended : (s : State) (n : ℕ) → IsServing s → IsServing (serve s (Ended n)).state
 ended s n h = record { linked = λ c path link found. by c path link (is_number n c) refl found } where
   left : List (ℕ × Links)
   left = filter (λ e. not (is_number n e.0)) s.connections
@@ -85,15 +99,14 @@ ended s n h = record { linked = λ c path link found. by c path link (is_number 
       let never : None ≡ Some link = sym (ap (λ ls. link_at (found_links ls) path) none) ∙ found in cc
   by c path link false apart found = others c path link (lookup (is_number c) left) refl apart found
 
-frame : (s : State) (n : ℕ) (r : Result Incoming MessageFault) → IsServing s → IsServing (heard s n r).state
-frame s n (Ok m) h =
-    after_sound s n (or_refusal s (on_message s n m.message)) h (message_sound s n m.message (h.linked n))
-frame s n (Err (fault.Refused id cause)) h =
-    after_sound s n (answers s (Refuses (refusal_for cause))) h
-    (stays_sound s n (answers s (Refuses (refusal_for cause))) refl refl refl (h.linked n))
-frame s n (Err fault.Memory) h = h
+-- whatever a body comes to
+pub outcome_sound : (s : State) (n : ℕ) (r : Result Incoming MessageFault) → IsServing s → IsSound s n (outcome_of s n r)
+outcome_sound s n (Ok m) h = message_sound s n m.message (h.linked n)
+outcome_sound s n (Err (fault.Refused id cause)) h = stays_sound s n _ refl refl refl (h.linked n)
+outcome_sound s n (Err fault.Memory) h = stays_sound s n _ refl refl refl (h.linked n)
 
 pub goes_on : (s : State) (event : Event) → IsServing s → IsServing (serve s event).state
 goes_on s (EditorBegan n) h = began s n h
 goes_on s (Ended n) h = ended s n h
-goes_on s (EditorFrame n body) h = frame s n (message_of body) h
+goes_on s (EditorFrame n body) h =
+    after_sound s n (outcome_of s n (message_of body)) h (outcome_sound s n (message_of body) h)

@@ -25,10 +25,16 @@ use Rattle.daemon_core.proofs.MapLemmas.{lookup_without, none_left, lookup_each}
 abbrev pub AllLinked : History → Links → Type 0
 AllLinked history links = (path : List ℕ) (link : Link) → link_at links path ≡ Some link → IsLinked history path link
 
--- what an outcome owes: the links of its own connection, and of each other one, are as they should be
+-- an outcome changes no text and tells nobody, or it makes one change, which it tells
+pub data IsChange (s : State) (o : Outcome) : Type 0 where
+  Quiet : o.history ≡ s.history → o.effects ≡ [] → IsChange s o
+  Made : (path : List ℕ) (d : Cells) → base_length d ≡ length (text_at s.history path) → o.history ≡ made s.history path d
+    → o.effects ≡ effects_of path d → IsChange s o
+
+-- what an outcome owes: one change at most, and that the links of its own connection are as they should be
 pub record IsSound (s : State) (n : ℕ) (o : Outcome) : Type 0 where
   pub own : AllLinked o.history (own_links o.own (links_of s n))
-  pub told : (links : Links) → AllLinked s.history links → AllLinked o.history (told_links o.effects links)
+  pub change : IsChange s o
 
 -- a link ends
 pub gone_linked : (history : History) (path : List ℕ) (links : Links) → AllLinked history links

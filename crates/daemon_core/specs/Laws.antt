@@ -9,7 +9,7 @@ use Rattle.daemon_core.specs.Outputs.{serve, reply}
 use Rattle.daemon_core.specs.Refusing.{Refused}
 use Rattle.daemon_core.specs.Serving.{on_message, or_refusal}
 use Rattle.daemon_core.specs.State.{State, link_of}
-use Rattle.daemon_core.specs.declared.Event.{Event}
+use Rattle.daemon_core.specs.declared.events.Event.{Event}
 
 -- The link to the file at a path leads to the daemon's text there, and has counted no more than the daemon's changes and
 -- the replacement that may follow an open.

@@ -73,3 +73,8 @@ links_after n o c links = if is_number n c then own_links o.own links else told_
 abbrev pub state_after : State → ℕ → Outcome → State
 state_after s n o =
     record s { history = o.history; connections = map (λ c. (c.0, links_after n o c.0 c.1)) s.connections }
+
+-- the daemon after a message that came on none of its connections
+abbrev pub state_told : State → Outcome → State
+state_told s o =
+    record s { history = o.history; connections = map (λ c. (c.0, told_links o.effects c.1)) s.connections }

@@ -23,10 +23,10 @@ use Rattle.text_position.specs.Changes.{edits_of}
 use Rattle.daemon_core.specs.Outcome.{Answer, Silence, Success, Refuses, LinkEvent, Stays, Opened, Taken, Gone, Effect, Outcome, answers, opened_link, told_links, state_after}
 use Rattle.daemon_core.specs.Serving.{on_message, or_refusal}
 use Rattle.daemon_core.specs.State.{Links, State, is_number, link_at, links_of}
-use Rattle.daemon_core.specs.declared.Event.{Event}
-use Rattle.daemon_core.specs.declared.Event.TheVariants.{EditorBegan, Ended, EditorFrame}
-use Rattle.daemon_core.specs.declared.Output.{Output}
-use Rattle.daemon_core.specs.declared.Output.TheVariants.{Send, Shutdown}
+use Rattle.daemon_core.specs.declared.events.Event.{Event}
+use Rattle.daemon_core.specs.declared.events.Event.TheVariants.{EditorBegan, Ended, EditorFrame}
+use Rattle.daemon_core.specs.declared.events.Output.{Output}
+use Rattle.daemon_core.specs.declared.events.Output.TheVariants.{Send, Shutdown}
 
 -- Deltas are sent as one message each. Each is written for the text that those before it leave.
 abbrev pub edit_messages : List ℕ → ℕ → List ℕ → List Cells → List ToEditor
@@ -68,10 +68,13 @@ others_messages base (effect ∷ effects) links =
 abbrev pub send : ℕ → ToEditor → Output
 send n message = Send n (frame_bytes (written message))
 
--- what a connection other than n is sent
+-- what a connection is sent of the effects of another's message
+abbrev pub told_outputs : BaseView → List Effect → ℕ × Links → List Output
+told_outputs base effects c = map (send c.0) (others_messages base effects c.1)
+
+-- the same of each but connection n
 abbrev pub sent_to_others : ℕ → BaseView → List Effect → ℕ × Links → List Output
-sent_to_others n base effects c =
-    if is_number n c.0 then [] else map (send c.0) (others_messages base effects c.1)
+sent_to_others n base effects c = if is_number n c.0 then [] else told_outputs base effects c
 
 -- the reply; a message without an id, and a response, have none
 abbrev pub reply : Option MessageId → Answer → List ToEditor
@@ -101,11 +104,21 @@ pub record Served : Type 0 where
 abbrev pub served : State → ℕ → Option MessageId → Outcome → Served
 served s n id o = record { state = state_after s n o; outputs = outputs s n id o }
 
--- what a body, read as a message or as a fault, makes of it
+-- what a body comes to, read as a message or as a fault; no body is read as want of memory
+abbrev pub outcome_of : State → ℕ → Result Incoming MessageFault → Outcome
+outcome_of s n (Ok m) = or_refusal s (on_message s n m.message)
+outcome_of s n (Err (fault.Refused id cause)) = answers s (Refuses (refusal_for cause))
+outcome_of s n (Err fault.Memory) = answers s Silence
+
+-- the id that is answered
+abbrev pub id_of : Result Incoming MessageFault → Option MessageId
+id_of (Ok m) = m.id
+id_of (Err (fault.Refused id cause)) = id
+id_of (Err fault.Memory) = None
+
+-- what it makes of the daemon
 abbrev pub heard : State → ℕ → Result Incoming MessageFault → Served
-heard s n (Ok m) = served s n m.id (or_refusal s (on_message s n m.message))
-heard s n (Err (fault.Refused id cause)) = served s n id (answers s (Refuses (refusal_for cause)))
-heard s n (Err fault.Memory) = record { state = s; outputs = [] }
+heard s n read = served s n (id_of read) (outcome_of s n read)
 
 -- the daemon's step
 abbrev pub serve : State → Event → Served

@@ -1,29 +1,13 @@
 //! The daemon: an event comes in, and the next state and the outputs follow.
+//!
+//! A daemon keeps the files of a directory and the connections of its editors. An editor's edit is carried past all that
+//! the editor had not shown, makes one change, and is told to every other editor that has the file open.
 #![tactic(auto)]
 
+mod events;
 pub mod laws;
 
-use tt_base::Blob;
+pub use events::{Event, Output};
 
 /// The characters that a text may have after an edit that lengthens it, and that a new file may have.
 pub const LONGEST_TEXT: usize = 1_048_576;
-
-/// What happens to a daemon.
-#[derive(Debug, Drop)]
-pub enum Event {
-    /// A connection of an editor has begun, with this number.
-    EditorBegan(u64),
-    /// A connection has ended.
-    Ended(u64),
-    /// A frame with this body has come on a connection.
-    EditorFrame(u64, Blob),
-}
-
-/// What a daemon asks for.
-#[derive(Debug, Drop)]
-pub enum Output {
-    /// This frame is to be sent on a connection.
-    Send(u64, Blob),
-    /// The daemon is to stop.
-    Shutdown,
-}

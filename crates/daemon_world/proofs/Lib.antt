@@ -1,0 +1,8 @@
+mod Rows
+pub mod ListLemmas
+pub mod SeatLemmas
+pub mod WorldLemmas
+pub mod HandledLemmas
+pub mod StepLemmas
+pub mod RawLemmas
+pub mod LawLemmas
