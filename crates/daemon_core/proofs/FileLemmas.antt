@@ -1,5 +1,5 @@
 -- What one more change makes of each file.
-use Rattle.std.proofs.Common.{◌≡◌, ℕ, Bool, true, false, cond, List, [], ◌∷◌, Option, Some, None, refl, sym, ap, ◌∙◌, subst}
+use Rattle.std.proofs.Common.{◌≡◌, ℕ, Bool, true, false, cond, List, [], ◌∷◌, Option, Some, refl, sym, ap, ◌∙◌}
 use Rattle.std.specs.declared.cmp.Ordering.{Ordering}
 use Rattle.std.specs.declared.cmp.Ordering.TheVariants.{Less, Equal, Greater}
 use Rattle.std.specs.BTreeMap.{is_at, insert_entry}
@@ -8,10 +8,10 @@ use Rattle.std.specs.Cmp.Lexicographic.{slice_cmp, nat_list_cmp_total}
 use Rattle.std.specs.Map.{lookup}
 use Rattle.std.specs.Option.{unwrap_or}
 use Rattle.std.specs.Ordering.{nat_cmp, is_eq, match_ordering}
-use Rattle.std.proofs.lemmas.Cmp.{tied_itself, alike_right, tied_back}
+use Rattle.std.proofs.lemmas.Cmp.{tied_itself, alike_right}
 use Rattle.std.proofs.lemmas.Map.Lookups.{exact_bytes}
 use Rattle.delta.specs.Cells.{Cells, applied}
-use Rattle.daemon_core.specs.History.{History, is_path, view_at, text_at, made}
+use Rattle.daemon_core.specs.History.{History, is_path, text_at, made}
 
 pub is_tied : (r : Ordering) → is_eq r ≡ true → r ≡ Equal
 is_tied Less e = cc

@@ -1,6 +1,6 @@
 -- What one more change makes of the link to a file.
-use Rattle.std.proofs.Common.{◌≡◌, ℕ, ◌+◌, ◌-◌, ◌≤◌, Bool, true, false, List, [], ◌∷◌, ◌++◌, length, take, drop, refl, sym, ap, ◌∙◌, subst, arith, length-append, length-drop}
-use Rattle.delta.specs.Cells.{Cells, base_length, result_length, applied, changes_nothing}
+use Rattle.std.proofs.Common.{◌≡◌, ℕ, ◌+◌, ◌-◌, ◌≤◌, Bool, true, false, List, [], ◌∷◌, ◌++◌, length, take, refl, sym, ap, ◌∙◌, subst, arith, length-append, length-drop}
+use Rattle.delta.specs.Cells.{Cells, base_length, applied, changes_nothing}
 use Rattle.delta.proofs.LawLemmas.{applied-nothing, length-applied}
 use Rattle.transform.specs.Carried.{IsChain, applied_all, chain_end, past_list, list_past}
 use Rattle.transform.proofs.ChainLemmas.{applied_all-push, applied_all-take-drop, IsChain-push, length-applied_all, IsChain-take, IsChain-drop}

@@ -1,16 +1,11 @@
 -- Looking up in what a daemon has open.
-use Rattle.std.proofs.Common.{◌≡◌, ℕ, Bool, true, false, cond, not, List, [], ◌∷◌, map, filter, Option, Some, None, refl, sym, ap, ◌∙◌, subst}
-use Rattle.std.specs.declared.cmp.Ordering.{Ordering}
-use Rattle.std.specs.declared.cmp.Ordering.TheVariants.{Less, Equal, Greater}
+use Rattle.std.proofs.Common.{◌≡◌, ℕ, Bool, true, false, cond, not, List, [], ◌∷◌, map, filter, Some, None, refl, sym, ap, ◌∙◌}
 use Rattle.std.specs.Map.{lookup}
-use Rattle.std.specs.Option.{option_map, unwrap_or}
-use Rattle.std.specs.Ordering.{nat_cmp, is_eq}
-use Rattle.std.specs.Prelude.{if◌then◌else◌}
+use Rattle.std.specs.Option.{option_map}
+use Rattle.std.specs.Ordering.{nat_cmp}
 use Rattle.std.proofs.lemmas.Map.Lookups.{exact_unsigned}
-use Rattle.editor_bridge.specs.Link.{Link}
-use Rattle.daemon_core.specs.History.{is_path}
-use Rattle.daemon_core.specs.State.{Links, is_number, link_at, at_path}
-use Rattle.daemon_core.proofs.FileLemmas.{is_tied, path_same, is_path_itself}
+use Rattle.daemon_core.specs.State.{is_number}
+use Rattle.daemon_core.proofs.FileLemmas.{is_tied}
 
 -- without the entries of a key, what is found at another is what was found, and at the key nothing
 pub lookup_without : {K X : Type 0} (test drops : K → Bool) (es : List (K × X)) (x : X)

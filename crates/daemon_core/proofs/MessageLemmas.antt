@@ -1,6 +1,6 @@
 -- Whatever a message comes to, the links are as they should be afterwards.
-use Rattle.std.proofs.Common.{◌≡◌, ℕ, ◌+◌, ◌-◌, ◌≤◌, Bool, true, false, cond, List, [], ◌∷◌, length, take, drop, Option, Some, None, Result, Ok, Err, nat_le, nat_lt, refl, sym, ap, ◌∙◌, subst, arith}
-use Rattle.std.specs.Option.{option_map, unwrap_or}
+use Rattle.std.proofs.Common.{◌≡◌, ℕ, ◌+◌, ◌-◌, ◌≤◌, Bool, true, false, List, [], ◌∷◌, length, Option, Some, None, Result, Ok, Err, nat_lt, refl, sym, ap, ◌∙◌, subst, arith}
+use Rattle.std.specs.Option.{unwrap_or}
 use Rattle.std.specs.Prelude.{if◌then◌else◌}
 use Rattle.std.specs.Str.{bytes_eq}
 use Rattle.std.proofs.lemmas.Bool.{ltb-false}
@@ -13,7 +13,7 @@ use Rattle.delta.specs.Marks.{composed}
 use Rattle.delta.proofs.ApplyLemmas.{applied-replacing_all}
 use Rattle.delta.proofs.CellsLemmas.{base_length-covers, base_length-inserts}
 use Rattle.delta.proofs.ComposedLemmas.{base_length-composed}
-use Rattle.transform.specs.Carried.{IsChain, applied_all, chain_end, past_list}
+use Rattle.transform.specs.Carried.{IsChain, chain_end}
 use Rattle.transform.proofs.ChainLemmas.{applied_all-take-drop, length-applied_all}
 use Rattle.transform.proofs.MergedLemmas.{base_length-past_list}
 use Rattle.text_position.specs.Edits.{delta_of_edit, with_edits, delta_of_edits}
@@ -27,12 +27,12 @@ use Rattle.file_uri.specs.declared.faults.UriFault.{UriFault}
 use Rattle.rpc_message.specs.declared.messages.FromEditor.{FromEditor}
 use Rattle.rpc_message.specs.declared.messages.FromEditor.TheVariants.{Open, Close, Edit, Cursor, Shutdown, Response}
 use Rattle.rpc_message.specs.declared.refusals.Refusal.TheVariants.{TextTooLong}
-use Rattle.daemon_core.specs.History.{History, is_path, view_at, text_at, made}
-use Rattle.daemon_core.specs.Laws.{IsLinked, IsServing}
-use Rattle.daemon_core.specs.Outcome.{Answer, LinkEvent, Stays, Opened, Taken, Gone, Success, Effect, Outcome, answers, effects_of, opened_link, own_links, told_links}
-use Rattle.daemon_core.specs.Refusing.{Refused, Step, ◌>>=◌, unless_bad_uri, open_link, no_link, unless_bad_revision, text_shown, unless_bad_edits, may_grow}
+use Rattle.daemon_core.specs.History.{History, view_at, text_at, made}
+use Rattle.daemon_core.specs.Laws.{IsLinked}
+use Rattle.daemon_core.specs.Outcome.{LinkEvent, Stays, Opened, Taken, Gone, Success, Effect, Outcome, answers, effects_of, opened_link, own_links, told_links}
+use Rattle.daemon_core.specs.Refusing.{Refused, ◌>>=◌, unless_bad_uri, open_link, no_link, unless_bad_revision, text_shown, unless_bad_edits, may_grow}
 use Rattle.daemon_core.specs.Serving.{with_change, changed, opening, on_open, on_edit, on_close, on_message, or_refusal}
-use Rattle.daemon_core.specs.State.{Links, State, link_at, links_of, link_of}
+use Rattle.daemon_core.specs.State.{Links, State, links_of, link_of}
 use Rattle.daemon_core.proofs.FileLemmas.{is_path_itself, text_made}
 use Rattle.daemon_core.proofs.LinkLemmas.{linked_told, linked_elsewhere, linked_untold, linked_took, MayTake, chain_left}
 use Rattle.daemon_core.proofs.StepLemmas.{AllLinked, IsSound, IsChange, Quiet, Made, gone_linked, opened_linked, changed_linked}

@@ -1,6 +1,6 @@
 -- Whatever comes, a daemon goes on to serve.
-use Rattle.std.proofs.Common.{◌≡◌, ℕ, Bool, true, false, cond, not, List, [], ◌∷◌, map, filter, Option, Some, None, Result, Ok, Err, refl, sym, ap, ◌∙◌, subst}
-use Rattle.std.specs.BTreeMap.{is_at, insert_entry}
+use Rattle.std.proofs.Common.{◌≡◌, ℕ, Bool, true, false, cond, not, List, [], filter, Option, Some, None, Result, Ok, Err, refl, sym, ap, ◌∙◌, subst}
+use Rattle.std.specs.BTreeMap.{insert_entry}
 use Rattle.std.specs.Map.{lookup}
 use Rattle.std.specs.Option.{option_map, unwrap_or}
 use Rattle.std.specs.Ordering.{nat_cmp}
@@ -8,20 +8,18 @@ use Rattle.std.specs.Prelude.{if◌then◌else◌}
 use Rattle.std.proofs.lemmas.Cmp.{nat_cmp_total}
 use Rattle.editor_bridge.specs.Link.{Link}
 use Rattle.rpc_message.specs.Messages.{message_of}
-use Rattle.rpc_message.specs.Refusing.{refusal_for}
 use Rattle.rpc_message.specs.declared.faults.MessageFault.{MessageFault}
 use Rattle.rpc_message.specs.declared.faults.MessageFault.TheVariants as fault
 use Rattle.rpc_message.specs.declared.messages.Incoming.{Incoming}
 use Rattle.daemon_core.specs.Laws.{IsLinked, IsServing}
-use Rattle.daemon_core.specs.Outcome.{Outcome, Refuses, answers, own_links, told_links, links_after, state_after, state_told}
-use Rattle.daemon_core.specs.Outputs.{Served, outcome_of, heard, serve}
-use Rattle.daemon_core.specs.Serving.{on_message, or_refusal}
+use Rattle.daemon_core.specs.Outcome.{Outcome, own_links, told_links, links_after, state_after, state_told}
+use Rattle.daemon_core.specs.Outputs.{outcome_of, serve}
 use Rattle.daemon_core.specs.State.{Links, State, is_number, link_at, links_of, link_of}
 use Rattle.daemon_core.specs.declared.events.Event.{Event}
 use Rattle.daemon_core.specs.declared.events.Event.TheVariants.{EditorBegan, Ended, EditorFrame}
 use Rattle.daemon_core.proofs.FileLemmas.{lookup_put}
 use Rattle.daemon_core.proofs.MapLemmas.{lookup_without, none_left, lookup_each, number_same}
-use Rattle.daemon_core.proofs.StepLemmas.{AllLinked, IsSound, IsChange}
+use Rattle.daemon_core.proofs.StepLemmas.{IsSound, IsChange}
 use Rattle.daemon_core.proofs.MessageLemmas.{message_sound, stays_sound, told_all}
 
 -- what a connection has open, as a look-up finds it

@@ -1,24 +1,17 @@
 -- What a message makes of the links, by what it does: nothing, a file opened, an edit taken, or a link gone.
-use Rattle.std.proofs.Common.{◌≡◌, ℕ, ◌+◌, ◌≤◌, Bool, true, false, cond, not, List, [], ◌∷◌, length, map, filter, Option, Some, None, refl, sym, ap, ◌∙◌, subst, arith}
-use Rattle.std.specs.BTreeMap.{is_at, insert_entry}
+use Rattle.std.proofs.Common.{◌≡◌, ℕ, Bool, true, false, cond, List, [], ◌∷◌, length, map, Option, Some, None, refl, sym, ap, ◌∙◌, subst}
+use Rattle.std.specs.BTreeMap.{insert_entry}
 use Rattle.std.specs.Cmp.Lexicographic.{slice_cmp, nat_list_cmp_total}
-use Rattle.std.specs.Map.{lookup}
-use Rattle.std.specs.Option.{option_map, unwrap_or}
+use Rattle.std.specs.Option.{option_map}
 use Rattle.std.specs.Ordering.{nat_cmp}
 use Rattle.std.specs.Prelude.{if◌then◌else◌}
-use Rattle.std.specs.Str.{bytes_eq}
-use Rattle.std.proofs.lemmas.Slice.Eq.{bytes_eq-Decides}
-use Rattle.delta.specs.Cells.{Cells, base_length, applied, inserting, inserts, deleting, nothing, changes_nothing}
-use Rattle.delta.proofs.CellsLemmas.{base_length-covers}
-use Rattle.transform.specs.Carried.{IsChain, applied_all}
-use Rattle.editor_bridge.specs.Link.{Link, new_link, issued, with_pushed, with_edit, carried_edit}
-use Rattle.bridge_world.specs.Plain.{first_deltas, replacement_unless}
-use Rattle.daemon_core.specs.History.{History, is_path, view_at, text_at, made}
+use Rattle.delta.specs.Cells.{Cells, base_length}
+use Rattle.editor_bridge.specs.Link.{Link}
+use Rattle.daemon_core.specs.History.{History, is_path, text_at, made}
 use Rattle.daemon_core.specs.Laws.{IsLinked}
-use Rattle.daemon_core.specs.Outcome.{LinkEvent, Stays, Opened, Taken, Gone, Effect, Outcome, effects_of, opened_link, own_links, told_links, links_after}
-use Rattle.daemon_core.specs.State.{Links, State, is_number, link_at, links_of, link_of, at_path}
-use Rattle.daemon_core.proofs.FileLemmas.{text_made, text_elsewhere, path_same, is_path_itself, is_path_back, lookup_put}
-use Rattle.daemon_core.proofs.LinkLemmas.{linked_told, linked_elsewhere, linked_untold, linked_took, MayTake}
+use Rattle.daemon_core.specs.Outcome.{Gone, Outcome, effects_of, own_links}
+use Rattle.daemon_core.specs.State.{Links, State, link_at, links_of, at_path}
+use Rattle.daemon_core.proofs.FileLemmas.{path_same, is_path_back, lookup_put}
 use Rattle.daemon_core.proofs.MapLemmas.{lookup_without, none_left, lookup_each}
 
 -- each link that is open is as it should be
@@ -29,7 +22,7 @@ AllLinked history links = (path : List ℕ) (link : Link) → link_at links path
 pub data IsChange (s : State) (o : Outcome) : Type 0 where
   Quiet : o.history ≡ s.history → o.effects ≡ [] → IsChange s o
   Made : (path : List ℕ) (d : Cells) → base_length d ≡ length (text_at s.history path) → o.history ≡ made s.history path d
-    → o.effects ≡ effects_of path d → IsChange s o
+      → o.effects ≡ effects_of path d → IsChange s o
 
 -- what an outcome owes: one change at most, and that the links of its own connection are as they should be
 pub record IsSound (s : State) (n : ℕ) (o : Outcome) : Type 0 where

@@ -1,11 +1,10 @@
 -- What a daemon sends, and the daemon's step as a whole: from an event to the next state and the outputs.
-use Rattle.std.specs.Prelude.{ℕ, Bool, true, false, not, List, [], ◌∷◌, ◌++◌, map, filter, Option, Some, None, Result, Ok, Err, unwrap_or, if◌then◌else◌}
+use Rattle.std.specs.Prelude.{ℕ, Bool, true, false, not, List, [], ◌∷◌, ◌++◌, map, filter, Option, Some, None, Result, Ok, Err, if◌then◌else◌}
 use Rattle.std.specs.List.{flat_map}
 use Rattle.std.specs.BTreeMap.{insert_entry}
 use Rattle.std.specs.Ordering.{nat_cmp}
 use Rattle.delta.specs.Cells.{Cells, applied}
-use Rattle.transform.specs.Carried.{list_past}
-use Rattle.editor_bridge.specs.Link.{Link, daemon_text, editor_text, with_edit}
+use Rattle.editor_bridge.specs.Link.{Link, daemon_text, with_edit}
 use Rattle.file_uri.specs.Base.{BaseView}
 use Rattle.file_uri.specs.UriOf.{uri_of}
 use Rattle.rpc_frame.specs.Written.{frame_bytes}

@@ -1,6 +1,6 @@
 -- Why a message is refused, and what a refusal does to the link at its path.
-use Rattle.std.specs.Prelude.{ℕ, Bool, nat_le, ◌||◌, List, length, Option, Some, None, Result, Ok, Err, if◌then◌else◌}
-use Rattle.delta.specs.Cells.{Cells, applied}
+use Rattle.std.specs.Prelude.{ℕ, Bool, nat_le, ◌||◌, List, Option, Some, None, Result, Ok, Err}
+use Rattle.delta.specs.Cells.{Cells}
 use Rattle.editor_bridge.specs.Faults.{revision_fault}
 use Rattle.editor_bridge.specs.Link.{Link, issued, editor_text}
 use Rattle.editor_bridge.specs.declared.faults.BridgeFault.{BridgeFault}
@@ -16,7 +16,7 @@ use Rattle.text_position.specs.declared.faults.EditsFault.TheVariants as edits
 use Rattle.rpc_message.specs.declared.causes.UriCause.{UriCause}
 use Rattle.rpc_message.specs.declared.causes.UriCause.TheVariants as cause
 use Rattle.rpc_message.specs.declared.refusals.Refusal.{Refusal}
-use Rattle.rpc_message.specs.declared.refusals.Refusal.TheVariants.{NotOpen, AlreadyOpen, BadUri, BadPosition, BadRevision, TextTooLong, BackwardRange}
+use Rattle.rpc_message.specs.declared.refusals.Refusal.TheVariants.{NotOpen, AlreadyOpen, BadUri, BadPosition, BadRevision, BackwardRange}
 use Rattle.daemon_core.specs.declared.TheConstants.{LONGEST_TEXT}
 use Rattle.daemon_core.specs.Outcome.{LinkEvent, Stays, Gone}
 use Rattle.daemon_core.specs.State.{State}

@@ -1,7 +1,7 @@
 -- What a daemon makes of each message of an editor, with its refusals in their order.
-use Rattle.std.specs.Prelude.{ℕ, ◌+◌, List, [], ◌∷◌, length, Option, Some, None, Result, Ok, Err, true, false, if◌then◌else◌}
+use Rattle.std.specs.Prelude.{ℕ, List, [], length, Option, Some, None, Ok, Err, true, if◌then◌else◌}
 use Rattle.delta.specs.Cells.{Cells, applied, inserting}
-use Rattle.editor_bridge.specs.Link.{Link, carried_edit}
+use Rattle.editor_bridge.specs.Link.{carried_edit}
 use Rattle.bridge_world.specs.Plain.{first_deltas}
 use Rattle.rpc_message.specs.declared.messages.FromEditor.{FromEditor}
 use Rattle.rpc_message.specs.declared.messages.FromEditor.TheVariants.{Open, Close, Edit, Cursor, Shutdown, Response}
@@ -9,7 +9,7 @@ use Rattle.rpc_message.specs.declared.refusals.Refusal.TheVariants.{TextTooLong}
 use Rattle.tt_base.specs.declared.edits.TextEdit.{TextEdit}
 use Rattle.daemon_core.specs.History.{view_at, text_at, made}
 use Rattle.daemon_core.specs.Outcome.{LinkEvent, Stays, Opened, Taken, Gone, Silence, Success, Refuses, Outcome, answers, effects_of}
-use Rattle.daemon_core.specs.Refusing.{Refused, Step, ◌>>=◌, path_named, open_link, no_link, text_shown, good_edits, may_grow}
+use Rattle.daemon_core.specs.Refusing.{Step, ◌>>=◌, path_named, open_link, no_link, text_shown, good_edits, may_grow}
 use Rattle.daemon_core.specs.State.{State, link_of}
 
 -- one change of the text at a path: it is made, answered, and told to all other links

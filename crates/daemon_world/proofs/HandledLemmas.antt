@@ -1,5 +1,5 @@
 -- A message of a script's editor is handled.
-use Rattle.std.proofs.Common.{◌≡◌, ℕ, Bool, true, false, List, [], ◌∷◌, length, Option, Some, None, Result, Ok, Err, refl, sym, ap, ◌∙◌, subst}
+use Rattle.std.proofs.Common.{◌≡◌, ℕ, Bool, true, false, List, [], ◌∷◌, length, Option, Some, None, Ok, Err, refl, sym, ap, subst}
 use Rattle.std.specs.Prelude.{if◌then◌else◌}
 use Rattle.std.specs.Option.{unwrap_or}
 use Rattle.delta.specs.Cells.{Cells, base_length, applied, inserting, changes_nothing}
@@ -7,9 +7,9 @@ use Rattle.transform.specs.Carried.{past_list}
 use Rattle.bridge_world.specs.Lists.{unless}
 use Rattle.bridge_world.specs.Plain as P
 use Rattle.rpc_message.specs.declared.refusals.Refusal.TheVariants.{NotOpen, AlreadyOpen, TextTooLong}
-use Rattle.daemon_core.specs.History.{History, view_at, text_at, made}
+use Rattle.daemon_core.specs.History.{view_at, text_at}
 use Rattle.daemon_core.specs.Outcome.{LinkEvent, Stays, Opened, Outcome}
-use Rattle.daemon_core.specs.Refusing.{Refused, Step, may_grow}
+use Rattle.daemon_core.specs.Refusing.{Step, may_grow}
 use Rattle.daemon_core.specs.Serving.{with_change, opening, or_refusal}
 use Rattle.daemon_core.specs.State.{State}
 use Rattle.daemon_core.proofs.FileLemmas.{text_made}

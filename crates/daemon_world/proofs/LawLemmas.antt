@@ -1,6 +1,6 @@
 -- What holds after every list of moves.
-use Rattle.std.proofs.Common.{◌≡◌, ◌⊎◌, inl, inr, ℕ, ◌==◌, Bool, true, false, not, ◌||◌, List, [], ◌∷◌, ◌++◌, length, codes, Option, Some, None, refl, sym, ap, ◌∙◌, subst, arith}
-use Rattle.std.specs.Prelude.{slice_get, if◌then◌else◌}
+use Rattle.std.proofs.Common.{◌≡◌, inl, inr, ℕ, ◌==◌, Bool, true, false, not, ◌||◌, List, [], ◌∷◌, length, codes, refl, sym, ap, ◌∙◌, subst, arith}
+use Rattle.std.specs.Prelude.{if◌then◌else◌}
 use Rattle.std.proofs.lemmas.Bool.{eqb-true}
 use Rattle.bridge_world.specs.Counted as N
 use Rattle.bridge_world.specs.Plain as P
@@ -9,12 +9,11 @@ use Rattle.bridge_world.specs.Tie.{Good, Ordered, place, reached}
 use Rattle.file_uri.specs.Base.{BaseView}
 use Rattle.replay_script.specs.declared.moves.Move.{Move}
 use Rattle.daemon_core.specs.History.{text_at}
-use Rattle.daemon_world.specs.Handling.{Played}
-use Rattle.daemon_world.specs.Laws.{ShowsFile, QuietShowsFile}
-use Rattle.daemon_world.specs.Lines.{is_busy, word_of}
+use Rattle.daemon_world.specs.Laws.{QuietShowsFile}
+use Rattle.daemon_world.specs.Lines.{word_of}
 use Rattle.daemon_world.specs.RawFrames.{Reading}
-use Rattle.daemon_world.specs.Step.{played, IsStep, Leads, Begins, Then}
-use Rattle.daemon_world.specs.World.{Seat, World, beginning, seat_of, is_connected}
+use Rattle.daemon_world.specs.Step.{played, Leads, Begins, Then}
+use Rattle.daemon_world.specs.World.{Seat, World, is_connected}
 use Rattle.daemon_world.proofs.RawLemmas.{raw_begins_good, raw_ends_good, raw_hears_good}
 use Rattle.daemon_world.proofs.SeatLemmas.{Stands, stands_quiet, none_mapped}
 use Rattle.daemon_world.proofs.StepLemmas.{Keeps, begins_good, joins_good, types_good, up_good, down_good, settles_good, closes_good, opens_good, cuts_good, shows_good, file_good, held_good}

@@ -1,5 +1,5 @@
 -- Where the items of a changed list come from.
-use Rattle.std.proofs.Common.{◌≡◌, ◌⊎◌, inl, inr, ℕ, zero, suc, List, [], ◌∷◌, ◌++◌, map, Option, Some, None, refl, sym, ap, ◌∙◌, subst}
+use Rattle.std.proofs.Common.{◌≡◌, ◌⊎◌, inl, inr, ℕ, zero, suc, List, [], ◌∷◌, ◌++◌, map, Some, refl, ap}
 use Rattle.std.specs.Prelude.{slice_get, slice_set}
 use Rattle.bridge_world.specs.Lists.{one_and_others}
 

@@ -1,10 +1,8 @@
 -- What comes on a connection that a script feeds keeps what every step keeps.
-use Rattle.std.proofs.Common.{◌≡◌, ◌⊎◌, inl, inr, ℕ, ◌==◌, ◌&&◌, Bool, true, false, not, List, [], ◌∷◌, ◌++◌, map, Option, Some, None, nat_lt, refl, sym, ap, ◌∙◌, subst}
-use Rattle.std.specs.Prelude.{slice_get, slice_set, if◌then◌else◌, option_and_then}
+use Rattle.std.proofs.Common.{◌≡◌, inl, inr, ℕ, ◌==◌, Bool, true, false, List, [], ◌∷◌, ◌++◌, map, Option, Some, None, refl, sym, ap, ◌∙◌, subst}
+use Rattle.std.specs.Prelude.{slice_get, slice_set, if◌then◌else◌}
 use Rattle.std.specs.Map.{set_value}
-use Rattle.std.specs.Option.{is_some}
 use Rattle.std.proofs.lemmas.Bool.{eqb-true, eqb-false}
-use Rattle.bridge_world.specs.Plain as P
 use Rattle.rpc_frame.specs.Stream.{StreamEnd, Begun, Broken}
 use Rattle.rpc_message.specs.Messages.{message_of}
 use Rattle.daemon_core.specs.History.{text_at}
@@ -16,10 +14,10 @@ use Rattle.daemon_core.proofs.ServeLemmas.{began, ended, after_sound, outcome_so
 use Rattle.daemon_world.specs.Handling.{Played, told_seats}
 use Rattle.daemon_world.specs.Lines.{hung_line}
 use Rattle.daemon_world.specs.Playing.{quietly, cut_off}
-use Rattle.daemon_world.specs.RawFrames.{Reading, kept_of, with_host, raw_begins, without_raw, raw_ends, stopped, lost_with, stops_if, after_outcome, raw_frame, if_runs, raw_frames, keeps, then_keeps, raw_hears}
+use Rattle.daemon_world.specs.RawFrames.{Reading, kept_of, with_host, raw_begins, without_raw, raw_ends, stopped, lost_with, stops_if, raw_frame, if_runs, raw_frames, keeps, then_keeps, raw_hears}
 use Rattle.daemon_world.specs.World.{Host, Seat, World, running, host_of}
 use Rattle.daemon_world.proofs.ListLemmas.{from_set, from_map, at_set, beside_set}
-use Rattle.daemon_world.proofs.StepLemmas.{Keeps, found_then, allowed_if, there_running, cut_seated, shown_good}
+use Rattle.daemon_world.proofs.StepLemmas.{Keeps, found_then, allowed_if, there_running, shown_good}
 use Rattle.daemon_world.proofs.SeatLemmas.{Stands, stands_lost}
 use Rattle.daemon_world.proofs.WorldLemmas.{IsSeated, IsGood, seated_told}
 

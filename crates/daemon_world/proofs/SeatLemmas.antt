@@ -1,13 +1,8 @@
 -- How an editor of a script stands to the text of its file: as one of bridge_world's editors stands to its daemon's text.
-use Rattle.std.proofs.Common.{◌≡◌, ℕ, ◌==◌, ◌&&◌, Bool, true, false, List, [], ◌∷◌, map, length, Option, Some, None, Ok, Err, refl, sym, ap, ◌∙◌, subst}
-use Rattle.std.specs.Prelude.{if◌then◌else◌, option_and_then}
-use Rattle.std.specs.Option.{option_map, unwrap_or}
-use Rattle.delta.specs.Cells.{Cells, base_length, applied, inserting, changes_nothing}
-use Rattle.delta.proofs.LawLemmas.{applied-nothing}
-use Rattle.transform.specs.Carried.{past_list}
+use Rattle.std.proofs.Common.{◌≡◌, ℕ, true, List, [], ◌∷◌, map, length, refl, sym, ap, ◌∙◌, subst}
+use Rattle.delta.specs.Cells.{Cells, base_length, applied}
 use Rattle.bridge_world.specs.Counted as N
 use Rattle.bridge_world.specs.Counted.{plain_of}
-use Rattle.bridge_world.specs.Lists.{unless}
 use Rattle.bridge_world.specs.Plain as P
 use Rattle.bridge_world.specs.Plain.{Open, Closed, is_closed}
 use Rattle.bridge_world.specs.Room.{changed, new_plain, new_counted}

@@ -1,25 +1,23 @@
 -- Each move keeps what every step keeps.
-use Rattle.std.proofs.Common.{◌≡◌, ◌⊎◌, inl, inr, ℕ, zero, suc, ◌+◌, ◌==◌, ◌&&◌, ◌≤◌, Bool, true, false, not, List, [], ◌∷◌, ◌++◌, map, length, Option, Some, None, nat_le, nat_lt, refl, sym, ap, ◌∙◌, subst, arith}
+use Rattle.std.proofs.Common.{◌≡◌, inl, inr, ℕ, zero, suc, ◌+◌, ◌==◌, ◌&&◌, ◌≤◌, Bool, true, false, List, [], ◌++◌, length, Option, Some, None, nat_le, nat_lt, refl, sym, ap, ◌∙◌, subst, arith}
 use Rattle.std.specs.Prelude.{slice_get, slice_set, if◌then◌else◌, option_and_then}
-use Rattle.std.specs.Option.{unwrap_or, is_some}
-use Rattle.std.proofs.lemmas.Bool.{eqb-true, eqb-false, leb-true, and_parts}
-use Rattle.bridge_world.specs.Lists.{only_if, one_and_others}
+use Rattle.std.proofs.lemmas.Bool.{leb-true, and_parts}
+use Rattle.bridge_world.specs.Lists.{only_if}
 use Rattle.bridge_world.specs.Plain as P
 use Rattle.bridge_world.specs.Plain.{is_closed}
 use Rattle.text_position.specs.Edits.{replacing}
 use Rattle.text_position.proofs.EditLemmas.{base_length-replacing}
 use Rattle.file_uri.specs.Base.{BaseView}
-use Rattle.daemon_core.specs.History.{view_at, text_at}
+use Rattle.daemon_core.specs.History.{text_at}
 use Rattle.daemon_core.specs.Laws.{IsServing}
 use Rattle.daemon_core.specs.Outcome.{Outcome, state_told}
 use Rattle.daemon_core.specs.Serving.{or_refusal}
-use Rattle.daemon_core.specs.State.{State, new_state}
 use Rattle.daemon_core.proofs.ServeLemmas.{told_serving}
-use Rattle.daemon_world.specs.Handling.{Played, first_step, handled, handled_seat, told_seats}
-use Rattle.daemon_world.specs.Playing.{quietly, with_seat, with_editor, new_host, new_seat, begins, joins, types, goes_up, goes_down, continued, again, all_up, all_down, settles, closes, opened_seat, opens_on, opens, cut_off, cuts, shows, tells_file, tells_held}
+use Rattle.daemon_world.specs.Handling.{Played, first_step, handled, handled_seat}
+use Rattle.daemon_world.specs.Playing.{quietly, with_seat, with_editor, new_host, new_seat, begins, joins, types, goes_up, goes_down, continued, again, all_up, settles, closes, opened_seat, opens_on, opens, cut_off, cuts, shows, tells_file, tells_held}
 use Rattle.daemon_world.specs.World.{Host, Seat, World, next_connection, host_of, running, seat_of}
 use Rattle.daemon_world.proofs.HandledLemmas.{first_handled}
-use Rattle.daemon_world.proofs.ListLemmas.{Came, from_set, at_set, beside_set, from_push, at_push, from_one_and_others}
+use Rattle.daemon_world.proofs.ListLemmas.{from_set, at_set, from_push, at_push, from_one_and_others}
 use Rattle.daemon_world.proofs.SeatLemmas.{Stands, stands_new, stands_typed, stands_opened, stands_closed, stands_lost, stands_delivered}
 use Rattle.daemon_world.proofs.WorldLemmas.{StandsAt, IsSeated, IsGood, seated_told}
 

@@ -1,23 +1,20 @@
 -- What every step of the plain machine keeps: each editor stands to the text of its file as it should, and each daemon
 -- serves.
-use Rattle.std.proofs.Common.{◌≡◌, ◌⊎◌, inl, inr, ℕ, ◌+◌, ◌==◌, ◌&&◌, Bool, true, false, List, [], ◌∷◌, ◌++◌, map, length, Option, Some, None, Ok, Err, refl, sym, ap, ◌∙◌, subst}
-use Rattle.std.specs.Prelude.{slice_get, slice_set, if◌then◌else◌, option_and_then}
-use Rattle.std.specs.Option.{unwrap_or}
+use Rattle.std.proofs.Common.{◌≡◌, ℕ, ◌==◌, ◌&&◌, Bool, true, false, List, [], ◌∷◌, length, Some, refl, sym, ap, ◌∙◌, subst}
+use Rattle.std.specs.Prelude.{slice_get, slice_set, if◌then◌else◌}
 use Rattle.std.proofs.lemmas.Bool.{eqb-true, eqb-false, eq-eqb}
-use Rattle.delta.specs.Cells.{Cells, base_length, applied, inserting, changes_nothing}
+use Rattle.delta.specs.Cells.{base_length, applied, changes_nothing}
 use Rattle.delta.proofs.LawLemmas.{applied-nothing}
-use Rattle.bridge_world.specs.Lists.{one_and_others}
 use Rattle.bridge_world.specs.Plain as P
-use Rattle.daemon_core.specs.History.{History, is_path, view_at, text_at, made}
+use Rattle.daemon_core.specs.History.{is_path, text_at, made}
 use Rattle.daemon_core.specs.Laws.{IsServing}
-use Rattle.daemon_core.specs.Outcome.{Effect, Outcome, effects_of, state_told}
+use Rattle.daemon_core.specs.Outcome.{Effect, Outcome, effects_of}
 use Rattle.daemon_core.specs.State.{State}
 use Rattle.daemon_core.proofs.FileLemmas.{text_made, text_elsewhere, path_same, is_path_back}
-use Rattle.daemon_core.proofs.ServeLemmas.{told_serving}
 use Rattle.daemon_core.proofs.StepLemmas.{IsChange, Quiet, Made}
 use Rattle.daemon_world.specs.Handling.{told_seat, told_seats}
 use Rattle.daemon_world.specs.World.{Host, Seat, World}
-use Rattle.daemon_world.proofs.ListLemmas.{Came, from_set, at_set, beside_set}
+use Rattle.daemon_world.proofs.ListLemmas.{at_set, beside_set}
 use Rattle.daemon_world.proofs.SeatLemmas.{Stands, stands_told}
 
 -- an editor stands to the text of its file at a daemon in this state

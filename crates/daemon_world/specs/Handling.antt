@@ -1,5 +1,5 @@
 -- What a daemon makes of a message of a script's editor, and whom it tells.
-use Rattle.std.specs.Prelude.{ℕ, ◌==◌, ◌&&◌, Bool, List, [], ◌∷◌, ◌++◌, map, flat_map, Option, Some, None, Ok, Err, slice_set, if◌then◌else◌}
+use Rattle.std.specs.Prelude.{ℕ, ◌==◌, ◌&&◌, List, [], ◌∷◌, flat_map, Option, Some, None, Ok, Err, slice_set, if◌then◌else◌}
 use Rattle.transform.specs.Carried.{past_list}
 use Rattle.bridge_world.specs.Lists.{one_and_others}
 use Rattle.bridge_world.specs.Plain as P

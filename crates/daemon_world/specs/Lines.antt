@@ -1,10 +1,10 @@
 -- The lines that a world prints, each with its LF.
-use Rattle.std.specs.Prelude.{ℕ, ◌==◌, Bool, ◌||◌, not, List, [], ◌∷◌, ◌++◌, length, Option, Some, None, codes, decimal, map, flat_map, if◌then◌else◌}
+use Rattle.std.specs.Prelude.{ℕ, ◌==◌, Bool, ◌||◌, not, List, [], ◌∷◌, ◌++◌, length, Option, Some, None, codes, decimal, flat_map, if◌then◌else◌}
 use Rattle.hex.specs.Hex.{encode_lower}
 use Rattle.bridge_world.specs.Plain as P
 use Rattle.bridge_world.specs.Plain.{is_closed}
-use Rattle.replay_script.specs.Paths.{path_text}
-use Rattle.replay_script.specs.Quotes.{quoted}
+use Rattle.replay_script.specs.Grammar.{path_text}
+use Rattle.replay_script.specs.Texts.{quoted}
 use Rattle.rpc_message.specs.Codes.{code}
 use Rattle.rpc_message.specs.declared.refusals.Refusal.TheVariants as refusal
 use Rattle.daemon_core.specs.declared.events.Output.{Output}

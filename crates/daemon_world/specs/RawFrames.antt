@@ -7,9 +7,9 @@ use Rattle.bridge_world.specs.Lists.{only_if}
 use Rattle.rpc_frame.specs.ReaderView.{ReadsOn}
 use Rattle.rpc_frame.specs.Stream.{StreamEnd, Begun, Broken}
 use Rattle.rpc_message.specs.Messages.{message_of}
-use Rattle.daemon_core.specs.Outcome.{Effect, Outcome, state_after}
-use Rattle.daemon_core.specs.Outputs.{Served, outcome_of, id_of, outputs, serve}
-use Rattle.daemon_core.specs.State.{State, is_number}
+use Rattle.daemon_core.specs.Outcome.{Outcome, state_after}
+use Rattle.daemon_core.specs.Outputs.{outcome_of, id_of, outputs, serve}
+use Rattle.daemon_core.specs.State.{is_number}
 use Rattle.daemon_core.specs.declared.events.Event.TheVariants.{EditorBegan, Ended}
 use Rattle.daemon_world.specs.Handling.{Played, told_seats}
 use Rattle.daemon_world.specs.Lines.{told_lines, hung_line}

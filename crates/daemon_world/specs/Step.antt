@@ -42,4 +42,4 @@ pub record IsStep (base : BaseView) (w : World) (moved : Move) (result : Option 
 pub data Leads (base : BaseView) : List Move → World → List ℕ → Type 0 where
   Begins : Leads base [] beginning []
   Then : (moves : List Move) (w : World) (printed : List ℕ) (moved : Move) (next : Played) → Leads base moves w printed
-    → IsStep base w moved (Some next) → Leads base (moves ++ moved ∷ []) next.world (printed ++ next.printed)
+      → IsStep base w moved (Some next) → Leads base (moves ++ moved ∷ []) next.world (printed ++ next.printed)
