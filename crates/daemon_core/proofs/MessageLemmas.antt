@@ -21,7 +21,7 @@ use Rattle.text_position.specs.declared.faults.EditsFault.{EditsFault}
 use Rattle.editor_bridge.specs.Faults.{revision_fault}
 use Rattle.editor_bridge.specs.Link.{Link, issued, daemon_text, editor_text, unshown, with_pushed, with_edit, carried_edit}
 use Rattle.editor_bridge.specs.declared.faults.BridgeFault.{BridgeFault}
-use Rattle.bridge_world.specs.Plain.{first_deltas, replacement_unless}
+use Rattle.editor_bridge.specs.Link.{first_deltas, replacement_unless}
 use Rattle.file_uri.specs.PathOf.{path_of}
 use Rattle.file_uri.specs.declared.faults.UriFault.{UriFault}
 use Rattle.rpc_message.specs.declared.messages.FromEditor.{FromEditor}

@@ -1,8 +1,7 @@
 -- What a daemon makes of each message of an editor, with its refusals in their order.
 use Rattle.std.specs.Prelude.{ℕ, List, [], length, Option, Some, None, Ok, Err, true, if◌then◌else◌}
 use Rattle.delta.specs.Cells.{Cells, applied, inserting}
-use Rattle.editor_bridge.specs.Link.{carried_edit}
-use Rattle.bridge_world.specs.Plain.{first_deltas}
+use Rattle.editor_bridge.specs.Link.{carried_edit, first_deltas}
 use Rattle.rpc_message.specs.declared.messages.FromEditor.{FromEditor}
 use Rattle.rpc_message.specs.declared.messages.FromEditor.TheVariants.{Open, Close, Edit, Cursor, Shutdown, Response}
 use Rattle.rpc_message.specs.declared.refusals.Refusal.TheVariants.{TextTooLong}

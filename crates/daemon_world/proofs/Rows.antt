@@ -57,13 +57,24 @@ abbrev two_editors : List Move
 two_editors = daemon ∷ editor 0 (codes "ab") ∷ editor 1 (codes "ab") ∷ Move.Settle 0 ∷ Move.Settle 1 ∷ []
 
 -- both insert at one gap; the frame that comes to the second editor was overtaken by its own edit
-insertions_meet : prints (two_editors ++ types 0 1 0 (codes "X") ∷ types 1 1 0 (codes "Y") ∷ Move.Up 0 ∷ Move.Down 1 ∷ Move.Show 1 ∷ Move.Up 1 ∷ Move.Settle 0 ∷ Move.Settle 1 ∷ Move.Show 0 ∷ Move.Show 1 ∷ [])
+abbrev both_insert : List Move
+both_insert = types 0 1 0 (codes "X") ∷ types 1 1 0 (codes "Y") ∷ Move.Up 0 ∷ Move.Down 1 ∷ Move.Show 1 ∷ Move.Up 1 ∷ []
+
+abbrev both_settle_and_show : List Move
+both_settle_and_show = Move.Settle 0 ∷ Move.Settle 1 ∷ Move.Show 0 ∷ Move.Show 1 ∷ []
+
+insertions_meet : prints (two_editors ++ both_insert ++ both_settle_and_show)
     ≡ Some (codes "show 1 busy \"aYb\"\nshow 0 quiet \"aXYb\"\nshow 1 quiet \"aXYb\"\n")
 unfolding digits encode
 insertions_meet = refl
 
 -- each deletes one character
-deletions_meet : prints (daemon ∷ editor 0 (codes "abc") ∷ editor 1 (codes "abc") ∷ Move.Settle 0 ∷ Move.Settle 1 ∷ types 0 1 1 [] ∷ types 1 1 2 [] ∷ Move.Up 0 ∷ Move.Up 1 ∷ Move.Settle 0 ∷ Move.Settle 1 ∷ Move.Show 0 ∷ Move.Show 1 ∷ Move.Held 0 ∷ [])
+abbrev both_delete : List Move
+both_delete =
+    daemon ∷ editor 0 (codes "abc") ∷ editor 1 (codes "abc") ∷ Move.Settle 0 ∷ Move.Settle 1 ∷ types 0 1 1 [] ∷ types 1 1 2 []
+    ∷ Move.Up 0 ∷ Move.Up 1 ∷ []
+
+deletions_meet : prints (both_delete ++ both_settle_and_show ++ Move.Held 0 ∷ [])
     ≡ Some (codes "show 0 quiet \"a\"\nshow 1 quiet \"a\"\nheld 0 3\n")
 unfolding digits encode
 deletions_meet = refl
@@ -75,7 +86,12 @@ unfolding digits encode
 empty_edit_is_held = refl
 
 -- a frame of the old link comes to an editor that has opened its text anew
-old_frame_is_passed_over : prints (two_editors ++ types 1 1 0 (codes "Y") ∷ Move.Up 1 ∷ Move.Close 0 ∷ Move.Open 0 ∷ Move.Up 0 ∷ Move.Up 0 ∷ Move.Down 0 ∷ Move.Show 0 ∷ Move.Settle 0 ∷ Move.Show 0 ∷ [])
+abbrev opens_anew : List Move
+opens_anew =
+    types 1 1 0 (codes "Y") ∷ Move.Up 1 ∷ Move.Close 0 ∷ Move.Open 0 ∷ Move.Up 0 ∷ Move.Up 0 ∷ Move.Down 0 ∷ Move.Show 0
+    ∷ Move.Settle 0 ∷ Move.Show 0 ∷ []
+
+old_frame_is_passed_over : prints (two_editors ++ opens_anew)
     ≡ Some (codes "show 0 busy \"ab\"\nshow 0 quiet \"aYb\"\n")
 unfolding digits encode
 old_frame_is_passed_over = refl

@@ -14,7 +14,8 @@ use Rattle.daemon_core.specs.Outcome.{Outcome, state_told}
 use Rattle.daemon_core.specs.Serving.{or_refusal}
 use Rattle.daemon_core.proofs.ServeLemmas.{told_serving}
 use Rattle.daemon_world.specs.Handling.{Played, first_step, handled, handled_seat}
-use Rattle.daemon_world.specs.Playing.{quietly, with_seat, with_editor, new_host, new_seat, begins, joins, types, goes_up, goes_down, continued, again, all_up, settles, closes, opened_seat, opens_on, opens, cut_off, cuts, shows, tells_file, tells_held}
+use Rattle.daemon_world.specs.Playing.{quietly, with_seat, with_editor, new_host, new_seat, begins, joins, types, goes_up, goes_down, continued}
+use Rattle.daemon_world.specs.Playing.{again, all_up, settles, closes, opened_seat, opens_on, opens, cut_off, cuts, shows, tells_file, tells_held}
 use Rattle.daemon_world.specs.World.{Host, Seat, World, next_connection, host_of, running, seat_of}
 use Rattle.daemon_world.proofs.HandledLemmas.{first_handled}
 use Rattle.daemon_world.proofs.ListLemmas.{from_set, at_set, from_push, at_push, from_one_and_others}

@@ -82,7 +82,10 @@ told_stands d s o x (Made path δ fits same effects) here h =
 -- an editor that is told is the same but for what it shows
 told_one : (d : ℕ) (effect : Effect) (x : Seat) → told_seat d effect x ≡ record x { editor = (told_seat d effect x).editor }
 told_one d effect x = by (x.daemon == d && is_path effect.path x.path) where
-  by : (b : Bool) → ◌≡◌ {A = Seat} (if b then record x { editor = P.told effect.delta x.editor } else x) (record x { editor = (if b then record x { editor = P.told effect.delta x.editor } else x).editor })
+  told_so : Bool → Seat
+  told_so b = if b then record x { editor = P.told effect.delta x.editor } else x
+
+  by : (b : Bool) → told_so b ≡ record x { editor = (told_so b).editor }
   by true = refl
   by false = refl
 
