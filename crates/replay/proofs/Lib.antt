@@ -1,11 +1,9 @@
+mod Asked
 mod Fronts
 mod LineCuts
-mod Numbers
 mod Pieced
 mod Pieces
 mod QuietEditors
-mod Quotes
-mod RefusedPath
 mod Runs
 mod ScriptRows
 mod Statuses

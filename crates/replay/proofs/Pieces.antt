@@ -160,7 +160,7 @@ module _ (first player : Player) (before now : SinkMeaning) (piece rest line aft
         later = omega (arith, plays.later, to.same);
         kept = λ not_failed. plays.kept not_failed ∙ to.same;
         few_lines = omega (arith, ap length ends.cut, length-append line (10 ∷ after), to.fits);
-        so = (to.done, front_written new plays.so, omega (arith, line_is, to.line));
+        so = (to.done, front_written new plays.so.0, omega (arith, line_is, to.line));
       }
 
   -- memory ran out before the line was played

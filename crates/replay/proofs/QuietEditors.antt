@@ -6,9 +6,8 @@ use Rattle.std.proofs.lemmas.List.Sums.{fold-append}
 use Rattle.std.specs.List.{slice_get, slice_set}
 use Rattle.replay.specs.Laws.{HasTextOf, IsShownBy, QuietEditorHasItsDaemonsText}
 use Rattle.replay.specs.Machine.{WorldView, Played, step, only_if, handled, opened, typed, settled, most_editors, longest_text}
-use Rattle.replay.specs.Script.{Run, next, goes_on, moved_on, line_played, not_started}
-use Rattle.replay.specs.Grammar.{move_of}
-use Rattle.replay.specs.declared.moves.Move.{Move}
+use Rattle.replay.specs.Script.{Run, bytes_ask, next, goes_on, moved_on, line_played, not_started, played_by}
+use Rattle.replay_script.specs.declared.moves.Move.{Move}
 use Rattle.replay.specs.declared.world.Daemon.{Daemon}
 use Rattle.replay.specs.declared.world.Editor.{Editor}
 use Rattle.replay.specs.declared.world.Typing.{Typing}
@@ -133,12 +132,19 @@ step_good w (Move.Show e) p good h =
     let found = bound (slice_get w.editors e) _ p h in
     let same : w ≡ p.world = cc in
     subst Good same good
+step_good w _ p good h = cc
+
+answer_good : (w : WorldView) (answer : Option Move) (p : Played) → Good w → played_by w answer ≡ Some p → Good p.world
+answer_good w None p good h =
+    let same : w ≡ p.world = cc in
+    subst Good same good
+answer_good w (Some moved) p good h = step_good w moved p good h
 
 moved_good : (run : Run) (line : List ℕ) (played : Option Played) → line_played run.world line ≡ played → Good run.world → Good (moved_on run played).world
 moved_good run line None is good = good
 moved_good run line (Some played) is good =
-    let moved = bound (move_of line) (step run.world) played is in
-    step_good run.world moved.0 played good moved.2
+    let answer = bound (bytes_ask line) (played_by run.world) played is in
+    answer_good run.world answer.0 played good answer.2
 
 goes_good : (stuck : Bool) (run : Run) (line : List ℕ) → Good run.world → Good (goes_on stuck run line).world
 goes_good true run line good = good

@@ -5,7 +5,8 @@ use Rattle.std.specs.Io.KnownBytes.{prepend_known, append_known}
 use Rattle.outside.specs.SourceMeaning.{SourceMeaning}
 use Rattle.outside.specs.SinkMeaning.{SinkMeaning}
 use Rattle.replay.specs.Machine.{WorldView, Played}
-use Rattle.replay.specs.Script.{Run, Lines, lines_of, next, line_played, not_started, run_over, most_bytes}
+use Rattle.replay.specs.Script.{Run, Lines, bytes_ask, lines_of, next, line_played, not_started, run_over, most_bytes}
+use Rattle.replay_script.specs.declared.moves.Move.{Move}
 use Rattle.replay.specs.Table.{HasEnded, GoesOn}
 use Rattle.outside.specs.declared.sources.Took.{Took}
 use Rattle.replay.specs.declared.playing.Ending.{Ending}
@@ -39,6 +40,11 @@ abbrev pub printed_by : Option Played → List ℕ
 printed_by None = []
 printed_by (Some played) = played.printed
 
+-- the line asks for a move
+pub record AsksForMove (line : List ℕ) : Type 0 where
+  pub moved : Move
+  pub asks : bytes_ask line ≡ Some (Some moved)
+
 -- what the playing of one line does to the world and the sink, by its end
 abbrev pub LineSo : WorldView → WorldView → SinkMeaning → SinkMeaning → List ℕ → Playing → Type 0
 LineSo world world' old new line Playing.Whole =
@@ -46,7 +52,7 @@ LineSo world world' old new line Playing.Whole =
 LineSo world world' old new line Playing.Refused = (line_played world line ≡ None) × (new.written ≡ old.written)
 LineSo world world' old new line Playing.SinkFailed =
     WroteShort old new (printed_by (line_played world line)) × Rose old.faults new.faults
-LineSo world world' old new line Playing.Memory = WroteFront old new (printed_by (line_played world line))
+LineSo world world' old new line Playing.Memory = WroteFront old new (printed_by (line_played world line)) × AsksForMove line
 
 -- the playing of one line
 pub record PlaysLine (world world' : WorldView) (old new : SinkMeaning) (line : List ℕ) (playing : Playing) : Type 0 where

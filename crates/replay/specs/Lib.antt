@@ -1,4 +1,3 @@
-pub mod Grammar
 pub mod Machine
 pub mod Script
 pub mod Ending

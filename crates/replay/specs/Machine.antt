@@ -1,10 +1,11 @@
 -- The plain machine of a script: a world of daemons and editors, and what each move does to it.
-use Rattle.std.specs.Prelude.{ℕ, ◌+◌, ◌==◌, Bool, ◌&&◌, List, [], ◌∷◌, ◌++◌, length, fold, Option, Some, None, nat_lt, nat_le, codes, slice_get, slice_set, encode_utf8_all, if◌then◌else◌}
+use Rattle.std.specs.Prelude.{ℕ, ◌+◌, ◌==◌, Bool, ◌&&◌, List, [], ◌∷◌, ◌++◌, length, fold, Option, Some, None, nat_lt, nat_le, codes, slice_get, slice_set, if◌then◌else◌}
 use Rattle.std.specs.List.{splice}
 use Rattle.std.specs.Option.{option_map}
 use Rattle.std.specs.Fmt.{decimal}
-use Rattle.replay.specs.Grammar.{◌>>=◌}
-use Rattle.replay.specs.declared.moves.Move.{Move}
+use Rattle.replay_script.specs.Arguments.{◌>>=◌}
+use Rattle.replay_script.specs.Texts.{quoted}
+use Rattle.replay_script.specs.declared.moves.Move.{Move}
 use Rattle.replay.specs.declared.world.TheConstants.{MOST_DAEMONS, MOST_EDITORS, LONGEST_TEXT}
 use Rattle.replay.specs.declared.world.Daemon.{Daemon}
 use Rattle.replay.specs.declared.world.Editor.{Editor}
@@ -62,15 +63,11 @@ typed typing editor = record editor { text = edited typing editor.text; sent = e
 abbrev pub settled : Editor → Editor
 settled editor = record editor { sent = [] }
 
--- a text in quotes, in UTF-8
-abbrev pub quoted : List ℕ → List ℕ
-quoted text = 34 ∷ encode_utf8_all text ++ 34 ∷ []
-
 -- whether something is under way between the editor and its daemon
 abbrev pub word_of : Editor → List ℕ
 word_of editor = if length editor.sent == 0 then codes "quiet" else codes "busy"
 
--- the line that shows an editor: its number, whether it is quiet, and its text in quotes
+-- the line that shows an editor: its number, whether it is quiet, and its text as a script has it
 abbrev pub show_line : ℕ → Editor → List ℕ
 show_line e editor = codes "show " ++ decimal e ++ codes " " ++ word_of editor ++ codes " " ++ quoted editor.text ++ codes "\n"
 
@@ -82,7 +79,7 @@ quietly world = record { world = world; printed = [] }
 abbrev pub only_if : Bool → Played → Option Played
 only_if possible played = if possible then Some played else None
 
--- what a move does, and none where it is not possible
+-- what a move does, and none where it is not possible; moves of links, disks and connections are possible in no world
 abbrev pub step : WorldView → Move → Option Played
 step w (Move.Daemon d) =
     only_if (d == length w.daemons && nat_lt d most_daemons)
@@ -104,3 +101,4 @@ step w (Move.Settle e) = do
 step w (Move.Show e) = do
   editor ← slice_get w.editors e
   Some (record { world = w; printed = show_line e editor })
+step w _ = None

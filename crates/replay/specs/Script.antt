@@ -1,8 +1,11 @@
 -- A script as a whole: its bytes, its lines, and the run of the machine over them.
 use Rattle.std.specs.Prelude.{ℕ, ◌+◌, ◌==◌, Bool, true, false, not, List, [], ◌∷◌, ◌++◌, fold, Option, Some, None, if◌then◌else◌}
 use Rattle.replay.specs.declared.playing.TheConstants.{MOST_BYTES}
-use Rattle.replay.specs.Grammar.{◌>>=◌, move_of}
-use Rattle.replay.specs.Machine.{WorldView, Played, beginning, step}
+use Rattle.std.specs.Str.{is_utf8}
+use Rattle.replay_script.specs.Arguments.{◌>>=◌}
+use Rattle.replay_script.specs.Lines.{line_asks}
+use Rattle.replay_script.specs.declared.moves.Move.{Move}
+use Rattle.replay.specs.Machine.{WorldView, Played, beginning, quietly, step}
 
 -- the lines that end with LF, each without it, and the bytes behind the last LF
 pub record Lines : Type 0 where
@@ -42,9 +45,18 @@ moved_on run None = record run { stuck = true }
 moved_on run (Some played) =
     record { world = played.world; printed = run.printed ++ played.printed; line = run.line + 1; stuck = false }
 
--- what the move that the line spells gives in this world; nothing where it spells none or cannot be played
+-- what a line asks for, by its bytes: bytes that are not UTF-8 are outside the grammar
+abbrev pub bytes_ask : List ℕ → Option (Option Move)
+bytes_ask line = if is_utf8 line then line_asks line else None
+
+-- a line that asks for nothing prints nothing, and leaves the world as it is
+abbrev pub played_by : WorldView → Option Move → Option Played
+played_by world None = Some (quietly world)
+played_by world (Some moved) = step world moved
+
+-- what the line does in this world; none where it is outside the grammar or asks for a move that is not possible
 abbrev pub line_played : WorldView → List ℕ → Option Played
-line_played world line = move_of line >>= step world
+line_played world line = bytes_ask line >>= played_by world
 
 abbrev pub goes_on : Bool → Run → List ℕ → Run
 goes_on true run line = run

@@ -6,8 +6,6 @@
 #![tactic(auto)]
 
 pub mod laws;
-mod lines;
-mod moves;
 mod player;
 mod playing;
 mod run;

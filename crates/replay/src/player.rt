@@ -1,13 +1,15 @@
-ghost use Rattle.std.specs.Prelude.{◌≡◌, ◌==◌, position, ◌<◌, ◌+◌, ◌^◌, ◌++◌, ◌∷◌, [], true, length, MatchOption, IfOk};
+ghost use Rattle.std.specs.Prelude.{◌≡◌, ◌==◌, position, ◌<◌, ◌+◌, ◌^◌, ◌++◌, ◌∷◌, [], true, length, string_bytes, None, Some, MatchOption, IfOk};
 ghost use Rattle.std.specs.List.{list_all};
 ghost use Rattle.replay.specs.Machine.{beginning};
-ghost use Rattle.replay.specs.Script.{is_inner};
-ghost use Rattle.replay.specs.Ending.{Wrote, PlaysLine, PlaysPiece};
+ghost use Rattle.replay_script.specs.Reads.{ReadsLine};
+ghost use Rattle.replay.specs.Script.{bytes_ask, is_inner, line_played};
+ghost use Rattle.replay.specs.Ending.{AsksForMove, Wrote, PlaysLine, PlaysPiece};
 
-use crate::lines::{LineFault, read_line};
 use crate::world::{PlayEnd, World};
 use outside::{Gave, Sink};
+use replay_script::{LineFault, Move, read_line};
 use std::alloc::{AllocError, Global};
+use std::str;
 
 /// How the writing of some bytes ended.
 #[derive(Clone, Copy, Debug, PartialEq, Eq)]
@@ -41,7 +43,8 @@ pub struct Player {
 
 /// Writes all of the bytes, in as many calls as the sink takes.
 fn write_all<K: Sink>(alloc: Global, out: &mut K, bytes: &[u8]) -> Writing
-    ensures { Wrote (K.meaning out.old) (K.meaning out.new) bytes.now result }
+    ensures wrote { Wrote (K.meaning out.old) (K.meaning out.new) bytes.now result }
+    ensures some { result ≡ Writing.Memory → 0 < length bytes.now }
 {
     let mut rest = bytes;
     while !rest.is_empty() {
@@ -54,16 +57,36 @@ fn write_all<K: Sink>(alloc: Global, out: &mut K, bytes: &[u8]) -> Writing
     Writing::Whole
 }
 
+/// The move that a line of bytes asks for, given without its LF. Bytes that are no text are outside the grammar.
+fn read_bytes(alloc: Global, line: &[u8]) -> Result<Option<Move>, LineFault>
+    ensures { ReadsLine result (bytes_ask line.now) }
+{
+    match str::from_utf8(line) {
+        Ok(text) => read_line(alloc, text),
+        Err(_) => Err(LineFault::NotAMove),
+    }
+}
+
+/// Plays what a line of bytes asks for, and gives what it prints. A line that asks for nothing prints nothing, and one
+/// outside the grammar is no more possible than a move that is not.
+fn play_bytes(alloc: Global, world: &mut World, line: &[u8]) -> Result<String, PlayEnd>
+    ensures printed { IfOk result (λ printed. line_played world.old line.now ≡ Some (record { world = world.new; printed = string_bytes printed })) }
+    ensures not_possible { result ≡ Err PlayEnd.NotPossible → line_played world.old line.now ≡ None }
+    ensures memory { result ≡ Err PlayEnd.Memory → AsksForMove line.now }
+{
+    match read_bytes(alloc, line) {
+        Ok(Some(moved)) => world.play(alloc, &moved),
+        Ok(None) => Ok(String::new(alloc)),
+        Err(LineFault::NotAMove) => Err(PlayEnd::NotPossible),
+        Err(LineFault::Memory) => Err(PlayEnd::Memory),
+    }
+}
+
 /// Plays a line, given without its LF, and writes what it prints.
 fn play_line<K: Sink>(alloc: Global, world: &mut World, line: &[u8], out: &mut K) -> Playing
     ensures { PlaysLine world.old world.new (K.meaning out.old) (K.meaning out.new) line.now result }
 {
-    let moved = match read_line(alloc, line) {
-        Ok(moved) => moved,
-        Err(LineFault::NotAMove) => return Playing::Refused,
-        Err(LineFault::Memory) => return Playing::Memory,
-    };
-    let printed = match world.play(alloc, &moved) {
+    let printed = match play_bytes(alloc, world, line) {
         Ok(printed) => printed,
         Err(PlayEnd::NotPossible) => return Playing::Refused,
         Err(PlayEnd::Memory) => return Playing::Memory,

@@ -2,7 +2,6 @@ ghost use Rattle.outside_mem.specs.MemSource.{sure_source};
 ghost use Rattle.outside_mem.specs.MemSink.{sure_sink};
 
 use super::*;
-use crate::lines::LineFault;
 use crate::world::PlayEnd;
 use outside::{Gave, Sink, Source, Took};
 use outside_mem::{MemSink, MemSource, SureSink, SureSource};
@@ -91,6 +90,21 @@ fn scripts_print_what_editors_show(rt: HostRuntime) -> Result<(), Fail> {
 }
 
 #[test]
+fn texts_are_shown_as_scripts_have_them(rt: HostRuntime) -> Result<(), Fail> {
+    let tab = b"daemon 0\neditor 0 0 f \"a\\tb\"\nshow 0\n";
+    assert_ends(&rt, tab, "show 0 busy \"a\\tb\"\n", 0, 3)?;
+    let times = b"daemon 0\neditor 0 0 \"a b\" \"\\u{e4}\"*3\nsettle 0\nshow 0\n";
+    assert_ends(&rt, times, "show 0 quiet \"äää\"\n", 0, 4)
+}
+
+#[test]
+fn lines_that_ask_for_nothing_are_played(rt: HostRuntime) -> Result<(), Fail> {
+    assert_ends(&rt, b"\n# a comment\ndaemon 0\n\n", "", 0, 4)?;
+    assert_ends(&rt, b" # no comment\n", "", 2, 1)?;
+    assert_ends(&rt, b"daemon 0\n# cut off", "", 2, 2)
+}
+
+#[test]
 fn lines_outside_the_grammar_are_refused(rt: HostRuntime) -> Result<(), Fail> {
     assert_ends(&rt, b"daemon 0\nfrobnicate 0\n", "", 2, 2)?;
     assert_ends(&rt, b"daemon 0", "", 2, 1)?;
@@ -103,7 +117,9 @@ fn lines_outside_the_grammar_are_refused(rt: HostRuntime) -> Result<(), Fail> {
 fn moves_that_are_not_possible_are_refused(rt: HostRuntime) -> Result<(), Fail> {
     assert_ends(&rt, b"show 0\n", "", 2, 1)?;
     assert_ends(&rt, b"type 0 0 0 \"\"\n", "", 2, 1)?;
-    assert_ends(&rt, b"daemon 0\ndaemon 1\n", "", 2, 2)
+    assert_ends(&rt, b"daemon 0\ndaemon 1\n", "", 2, 2)?;
+    assert_ends(&rt, b"daemon 0\nheld 0\n", "", 2, 2)?;
+    assert_ends(&rt, b"link 0 1\n", "", 2, 1)
 }
 
 #[test]
@@ -165,12 +181,6 @@ fn long_scripts_are_played(rt: HostRuntime) -> Result<(), Fail> {
 
 #[test]
 fn faults_have_texts(rt: HostRuntime) -> Result<(), Fail> {
-    for (fault, text) in [
-        (LineFault::NotAMove, "the line is no move"),
-        (LineFault::Memory, "out of memory"),
-    ] {
-        assert_eq!(rt; format!(in rt.alloc(); "{fault}")?.as_str(), text);
-    }
     for (end, text) in [
         (PlayEnd::NotPossible, "the move is not possible"),
         (PlayEnd::Memory, "out of memory"),

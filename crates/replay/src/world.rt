@@ -1,7 +1,5 @@
 ghost use Rattle.std.specs.Prelude.{◌≡◌, ◌<◌, nat_le, ◌+◌, ◌++◌, [], ◌∷◌, ◌≤◌, length, fold, None, Some, IfOk, OnOk, OnErr, slice_get, string_bytes, encode_utf8_all};
-ghost use Rattle.replay.specs.Machine.{quietly, opened, typed, edited, handled, quoted, word_of, show_line, beginning, step};
-
-use crate::moves::Move;
+ghost use Rattle.replay.specs.Machine.{quietly, opened, typed, edited, handled, word_of, show_line, beginning, step};
 
 /// How many daemons a script may have.
 const MOST_DAEMONS: u64 = 1;
@@ -12,6 +10,7 @@ const MOST_EDITORS: u64 = 1;
 /// How many characters a text may have that an editor is given or types.
 const LONGEST_TEXT: usize = 4_194_304;
 
+use replay_script::{Move, write_text};
 use std::alloc::{AllocError, Global};
 use std::marker::Model;
 use thiserror::Error;
@@ -182,8 +181,8 @@ fn write_show(alloc: Global, number: u64, editor: &Editor) -> Result<String, All
     ensures { IfOk result (λ line. string_bytes line ≡ show_line number editor.now) }
 {
     let word = show_word(editor);
-    let text = editor.text.to_string(alloc)?;
-    format!(in alloc; "show {number} {word} \"{text}\"\n")
+    let text = write_text(alloc, &editor.text)?;
+    format!(in alloc; "show {number} {word} {text}\n")
 }
 
 impl World {
@@ -300,7 +299,7 @@ impl World {
     }
 
     /// Plays one move, and gives the lines that it prints, each with its LF. Whether it is possible is judged before
-    /// memory is asked for.
+    /// memory is asked for. Moves of links, disks and connections are not possible in this world.
     pub fn play(&mut self, alloc: Global, moved: &Move) -> Result<String, PlayEnd>
         ensures played { IfOk result (λ printed. step self.old moved.now ≡ Some (record { world = self.new; printed = string_bytes printed })) }
         ensures not_possible { result ≡ Err PlayEnd.NotPossible → step self.old moved.now ≡ None }
@@ -317,6 +316,7 @@ impl World {
             }
             Move::Settle(editor) => self.settle(alloc, *editor)?,
             Move::Show(editor) => return self.show(alloc, *editor),
+            _ => return Err(PlayEnd::NotPossible),
         }
         Ok(String::new(alloc))
     }

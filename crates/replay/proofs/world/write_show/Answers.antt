@@ -1,18 +1,18 @@
 -- The parts of the format are those of the line.
-use Rattle.std.proofs.Common.{◌≡◌, List, ℕ, [], ◌∷◌, ◌++◌, codes, sym, append_assoc, ◌∙◌}
+use Rattle.std.proofs.Common.{◌≡◌, List, ℕ, ◌++◌, codes, sym, append_assoc, ◌∙◌}
 use Rattle.std.proofs.lemmas.Result.{IfOk-weaker}
 use Rattle.std.specs.String.{string_bytes}
 use Rattle.replay.specs.Machine.{show_line}
 use Rattle.replay.proofs.world.write_show.Goals as goal
 
-regroup : (a b c d e f g h i : List ℕ) → a ++ b ++ c ++ d ++ e ++ (f ++ g ++ h) ++ i ≡ a ++ (b ++ (c ++ (d ++ (e ++ (f ++ (g ++ (h ++ i)))))))
-regroup a b c d e f g h i = simp append_assoc
+regroup : (a b c d e f g : List ℕ) → a ++ b ++ c ++ d ++ e ++ f ++ g ≡ a ++ (b ++ (c ++ (d ++ (e ++ (f ++ g)))))
+regroup a b c d e f g = simp append_assoc
 
 parts : (number word word' text text' : List ℕ) → word ≡ word' → text ≡ text'
-    → codes "show " ++ (number ++ (codes " " ++ (word ++ (codes " \"" ++ (text ++ codes "\"\n")))))
-    ≡ codes "show " ++ number ++ codes " " ++ word' ++ codes " " ++ (34 ∷ (text' ++ 34 ∷ [])) ++ codes "\n"
+    → codes "show " ++ (number ++ (codes " " ++ (word ++ (codes " " ++ (text ++ codes "\n")))))
+    ≡ codes "show " ++ number ++ codes " " ++ word' ++ codes " " ++ text' ++ codes "\n"
 parts number word word' text text' same_word same_text =
-    rw (same_word, same_text) (sym (regroup (codes "show ") number (codes " ") word' (codes " ") (codes "\"") text' (codes "\"") (codes "\n")))
+    rw (same_word, same_text) (sym (regroup (codes "show ") number (codes " ") word' (codes " ") text' (codes "\n")))
 
 pub returns : goal.returns
 returns c =
