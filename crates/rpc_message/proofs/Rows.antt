@@ -38,11 +38,11 @@ pub edit_has_184_bytes : length (written (Edit (codes "file:///work/f") 1 (typed
 unfolding serde_json_on_literals digits
 edit_has_184_bytes = refl
 
-pub edit-is-3 : method_named (codes "edit") ≡ Some method.Edit
-edit-is-3 = refl
+pub edit_is_a_method : method_named (codes "edit") ≡ Some method.Edit
+edit_is_a_method = refl
 
-pub save-is-none : method_named (codes "save") ≡ None
-save-is-none = refl
+pub save_is_none : method_named (codes "save") ≡ None
+save_is_none = refl
 
 pub no_object : message_in (Some (object [])) ≡ Err (fault.Refused (Some Null) cause.InvalidRequest)
 no_object = refl

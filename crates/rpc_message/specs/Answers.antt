@@ -5,9 +5,11 @@ use Rattle.serde_json.specs.Data.{Data}
 use Rattle.rpc_message.specs.Causes as cause
 use Rattle.rpc_message.specs.Codes.{signed_code, message}
 use Rattle.rpc_message.specs.Members as member
+use Rattle.rpc_message.specs.Methods.{name}
 use Rattle.rpc_message.specs.Values.{object, whole, bytes, id, edit_params, version}
 use Rattle.rpc_message.specs.declared.messages.ToEditor.{ToEditor}
 use Rattle.rpc_message.specs.declared.messages.ToEditor.TheVariants.{Success, Refused, Edit}
+use Rattle.rpc_message.specs.declared.methods.Method.TheVariants as method
 use Rattle.rpc_message.specs.declared.refusals.Refusal.{Refusal}
 use Rattle.rpc_message.specs.declared.refusals.Refusal.TheVariants.{BadParams, BadUri, BadPosition, BadRevision, TextTooLong, Clash, BackwardRange}
 
@@ -40,4 +42,4 @@ abbrev pub value : ToEditor → Data
 value (Success i) = object ((codes "id", id i) ∷ version ∷ (codes "result", json.string (codes "success")) ∷ [])
 value (Refused i refusal) = object ((codes "error", error refusal) ∷ (codes "id", id i) ∷ version ∷ [])
 value (Edit uri revision edits) =
-    object (version ∷ (codes "method", json.string (codes "edit")) ∷ (codes "params", edit_params uri revision edits) ∷ [])
+    object (version ∷ (codes "method", json.string (name method.Edit)) ∷ (codes "params", edit_params uri revision edits) ∷ [])

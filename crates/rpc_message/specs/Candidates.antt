@@ -8,8 +8,12 @@ use Rattle.rpc_message.specs.Forms.{◌>>=◌, bytes, whole, array, edit}
 use Rattle.rpc_message.specs.Json.{member}
 use Rattle.rpc_message.specs.Members.{member_named}
 use Rattle.rpc_message.specs.Messages.{id_form}
+use Rattle.rpc_message.specs.Methods.{name}
+use Rattle.rpc_message.specs.declared.codes.TheConstants.{PARSE_ERROR, INVALID_REQUEST, UNKNOWN_METHOD, BAD_PARAMS, NOT_OPEN, ALREADY_OPEN}
+use Rattle.rpc_message.specs.declared.codes.TheConstants.{BAD_URI, BAD_POSITION, BAD_REVISION, TEXT_TOO_LONG, CLASH, BACKWARD_RANGE}
 use Rattle.rpc_message.specs.declared.messages.ToEditor.{ToEditor}
 use Rattle.rpc_message.specs.declared.messages.ToEditor.TheVariants.{Success, Refused, Edit}
+use Rattle.rpc_message.specs.declared.methods.Method.TheVariants as method
 use Rattle.rpc_message.specs.declared.refusals.Refusal.{Refusal}
 use Rattle.rpc_message.specs.declared.refusals.Refusal.TheVariants.{ParseError, InvalidRequest, UnknownMethod, BadParams, NotOpen, AlreadyOpen}
 use Rattle.rpc_message.specs.declared.refusals.Refusal.TheVariants.{BadUri, BadPosition, BadRevision, TextTooLong, Clash, BackwardRange}
@@ -40,23 +44,23 @@ clash d = do
 -- the refusal of a code without its sign, where the error has no data
 abbrev pub plain : ℕ → Option Refusal
 plain code =
-    if code == 32700 then Some ParseError
-    else (if code == 32600 then Some InvalidRequest
-    else (if code == 32601 then Some UnknownMethod
-    else (if code == 32001 then Some NotOpen
-    else (if code == 32002 then Some AlreadyOpen
+    if code == PARSE_ERROR then Some ParseError
+    else (if code == INVALID_REQUEST then Some InvalidRequest
+    else (if code == UNKNOWN_METHOD then Some UnknownMethod
+    else (if code == NOT_OPEN then Some NotOpen
+    else (if code == ALREADY_OPEN then Some AlreadyOpen
     else None))))
 
 -- the same where it has some
 abbrev pub with_facts : ℕ → Data → Option Refusal
 with_facts code d =
-    if code == 32602 then bad_params d
-    else (if code == 32003 then bad_uri d
-    else (if code == 32004 then option_map BadPosition (member (codes "edit") whole d)
-    else (if code == 32005 then bad_revision d
-    else (if code == 32006 then option_map TextTooLong (member (codes "length") whole d)
-    else (if code == 32007 then clash d
-    else (if code == 32008 then option_map BackwardRange (member (codes "edit") whole d)
+    if code == BAD_PARAMS then bad_params d
+    else (if code == BAD_URI then bad_uri d
+    else (if code == BAD_POSITION then option_map BadPosition (member (codes "edit") whole d)
+    else (if code == BAD_REVISION then bad_revision d
+    else (if code == TEXT_TOO_LONG then option_map TextTooLong (member (codes "length") whole d)
+    else (if code == CLASH then clash d
+    else (if code == BACKWARD_RANGE then option_map BackwardRange (member (codes "edit") whole d)
     else None))))))
 
 -- by whether the error has data
@@ -95,7 +99,7 @@ edit_notice params = do
 
 -- a notice, by its method
 abbrev pub notice : List ℕ → Data → Option ToEditor
-notice method d = if bytes_eq method (codes "edit") then member (codes "params") edit_notice d else None
+notice called d = if bytes_eq called (name method.Edit) then member (codes "params") edit_notice d else None
 
 -- a refusal where there is an error, else a success
 abbrev pub reply : Option Data → Data → Option ToEditor

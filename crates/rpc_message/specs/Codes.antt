@@ -1,6 +1,8 @@
 -- The codes of refusals, and their messages.
 use Rattle.std.specs.Prelude.{ℕ, ℤ, pos, neg_ℤ, List, [], ◌∷◌, unwrap_or, codes}
 use Rattle.name_table.specs.Rows.{word_of}
+use Rattle.rpc_message.specs.declared.codes.TheConstants.{PARSE_ERROR, INVALID_REQUEST, UNKNOWN_METHOD, BAD_PARAMS, NOT_OPEN, ALREADY_OPEN}
+use Rattle.rpc_message.specs.declared.codes.TheConstants.{BAD_URI, BAD_POSITION, BAD_REVISION, TEXT_TOO_LONG, CLASH, BACKWARD_RANGE}
 use Rattle.rpc_message.specs.declared.refusals.Refusal.{Refusal}
 use Rattle.rpc_message.specs.declared.refusals.Refusal.TheVariants.{ParseError, InvalidRequest, UnknownMethod, BadParams, NotOpen, AlreadyOpen}
 use Rattle.rpc_message.specs.declared.refusals.Refusal.TheVariants.{BadUri, BadPosition, BadRevision, TextTooLong, Clash, BackwardRange}
@@ -8,25 +10,25 @@ use Rattle.rpc_message.specs.declared.refusals.Refusal.TheVariants.{BadUri, BadP
 -- each code without its sign, and its message; the first four are those of JSON-RPC 2.0, section 5.1
 abbrev pub table : List (ℕ × List ℕ)
 table =
-    (32700, codes "parse error") ∷ (32600, codes "invalid request") ∷ (32601, codes "method not found")
-    ∷ (32602, codes "invalid params") ∷ (32001, codes "file is not open") ∷ (32002, codes "file is already open")
-    ∷ (32003, codes "bad uri") ∷ (32004, codes "bad position") ∷ (32005, codes "bad revision")
-    ∷ (32006, codes "text too long") ∷ (32007, codes "two changes have one name") ∷ (32008, codes "backward range") ∷ []
+    (PARSE_ERROR, codes "parse error") ∷ (INVALID_REQUEST, codes "invalid request") ∷ (UNKNOWN_METHOD, codes "method not found")
+    ∷ (BAD_PARAMS, codes "invalid params") ∷ (NOT_OPEN, codes "file is not open") ∷ (ALREADY_OPEN, codes "file is already open")
+    ∷ (BAD_URI, codes "bad uri") ∷ (BAD_POSITION, codes "bad position") ∷ (BAD_REVISION, codes "bad revision")
+    ∷ (TEXT_TOO_LONG, codes "text too long") ∷ (CLASH, codes "two changes have one name") ∷ (BACKWARD_RANGE, codes "backward range") ∷ []
 
 -- the row of a refusal
 abbrev pub code : Refusal → ℕ
-code ParseError = 32700
-code InvalidRequest = 32600
-code UnknownMethod = 32601
-code (BadParams member) = 32602
-code NotOpen = 32001
-code AlreadyOpen = 32002
-code (BadUri cause) = 32003
-code (BadPosition edit) = 32004
-code (BadRevision confirmed issued seen) = 32005
-code (TextTooLong length) = 32006
-code (Clash given held) = 32007
-code (BackwardRange edit) = 32008
+code ParseError = PARSE_ERROR
+code InvalidRequest = INVALID_REQUEST
+code UnknownMethod = UNKNOWN_METHOD
+code (BadParams member) = BAD_PARAMS
+code NotOpen = NOT_OPEN
+code AlreadyOpen = ALREADY_OPEN
+code (BadUri cause) = BAD_URI
+code (BadPosition edit) = BAD_POSITION
+code (BadRevision confirmed issued seen) = BAD_REVISION
+code (TextTooLong length) = TEXT_TOO_LONG
+code (Clash given held) = CLASH
+code (BackwardRange edit) = BACKWARD_RANGE
 
 -- each code is below 0
 abbrev pub signed_code : Refusal → ℤ

@@ -2,9 +2,11 @@
 use Rattle.std.specs.Prelude.{ℕ, Bool, true, false, List, [], ◌∷◌, codes, map}
 use Rattle.serde_json.specs.Data as json
 use Rattle.serde_json.specs.Data.{Data}
+use Rattle.rpc_message.specs.Methods.{name}
 use Rattle.rpc_message.specs.Values.{object, array, whole, text, range, edit_params, version}
 use Rattle.rpc_message.specs.declared.messages.FromEditor.{FromEditor}
 use Rattle.rpc_message.specs.declared.messages.FromEditor.TheVariants.{Open, Close, Edit, Cursor, Shutdown, Response}
+use Rattle.rpc_message.specs.declared.methods.Method.TheVariants as called
 
 -- the message is no request, but a response
 abbrev pub is_response : FromEditor → Bool
@@ -13,11 +15,11 @@ is_response _ = false
 
 -- the name of its method
 abbrev pub method : FromEditor → List ℕ
-method (Open uri content) = codes "open"
-method (Close uri) = codes "close"
-method (Edit uri revision edits) = codes "edit"
-method (Cursor uri ranges) = codes "cursor"
-method Shutdown = codes "shutdown"
+method (Open uri content) = name called.Open
+method (Close uri) = name called.Close
+method (Edit uri revision edits) = name called.Edit
+method (Cursor uri ranges) = name called.Cursor
+method Shutdown = name called.Shutdown
 method Response = []
 
 -- its parameters

@@ -2,16 +2,17 @@ ghost use Rattle.std.specs.Prelude.{◌≡◌, IfOk, Some, None, MatchOption};
 ghost use Rattle.serde_json.specs.Data.{string};
 ghost use Rattle.serde_json.specs.View.{view};
 ghost use Rattle.rpc_message.specs.Answers as spec;
-ghost use Rattle.rpc_message.specs.Causes as causes_spec;
 ghost use Rattle.rpc_message.specs.Codes.{message};
 ghost use Rattle.rpc_message.specs.Replies.{IsRefusal, IsToEditor, HasSignedId, IsReply};
 ghost use Rattle.rpc_message.specs.Written.{written};
 ghost use Rattle.rpc_message.specs.declared.messages.ToEditor.TheVariants as to_editor;
 ghost use Rattle.rpc_message.specs.declared.refusals.Refusal.TheVariants as refused;
 
-use crate::causes::{UriCause, causes, row_of};
+use crate::causes::UriCause;
+use crate::codes::code_table;
 use crate::messages::{MessageId, ToEditor};
-use crate::refusals::{Refusal, code_of, code_table};
+use crate::methods::Method;
+use crate::refusals::{Refusal, code_of};
 use crate::values::{bytes_value, edit_params, id_value};
 use serde_json::{Value, json};
 use std::alloc::{AllocError, Global};
@@ -21,21 +22,13 @@ fn message_value(alloc: Global, refusal: &Refusal) -> Result<Value, AllocError>
     ensures { IfOk result (λ v. view v ≡ string (message refusal.now)) }
 {
     let table = code_table();
-    let row = u64::from(code_of(refusal));
-    Value::try_from_str(alloc, table.find_number(row).unwrap_or(""))
-}
-
-fn cause_value(alloc: Global, cause: UriCause) -> Result<Value, AllocError>
-    ensures { IfOk result (λ v. view v ≡ string (causes_spec.name cause)) }
-{
-    let table = causes();
-    Value::try_from_str(alloc, table.find_number(row_of(cause)).unwrap_or(""))
+    Value::try_from_str(alloc, table.find_number(code_of(refusal)).unwrap_or(""))
 }
 
 fn bad_uri_data(alloc: Global, cause: UriCause) -> Result<Value, AllocError>
     ensures { IfOk result (λ v. spec.facts (refused.BadUri cause) ≡ Some (view v)) }
 {
-    let cause = cause_value(alloc, cause)?;
+    let cause = cause.value(alloc)?;
     json!(in alloc; {"cause": cause})
 }
 
@@ -119,7 +112,8 @@ fn edit_notice(
     ensures message { IfOk result (λ v. IsToEditor (to_editor.Edit uri.now revision edits.now)) }
 {
     let params = edit_params(alloc, uri, revision, edits)?;
-    json!(in alloc; {"jsonrpc": "2.0", "method": "edit", "params": params})
+    let method = Method::Edit.value(alloc)?;
+    json!(in alloc; {"jsonrpc": "2.0", "method": method, "params": params})
 }
 
 /// The value of a message to an editor.

@@ -1,7 +1,11 @@
-ghost use Rattle.std.specs.Prelude.{◌≡◌};
+ghost use Rattle.std.specs.Prelude.{◌≡◌, IfOk};
+ghost use Rattle.serde_json.specs.Data.{string};
+ghost use Rattle.serde_json.specs.View.{view};
 ghost use Rattle.rpc_message.specs.Causes as spec;
 
 use name_table::{NameTable, rows};
+use serde_json::Value;
+use std::alloc::{AllocError, Global};
 
 /// Why a URI names no shared path: a rule of the URI, or one of the path that it would name.
 #[derive(Clone, Copy, Debug, PartialEq, Eq)]
@@ -32,70 +36,63 @@ pub enum UriCause {
     TooDeep,
 }
 
-/// The names of the causes, as messages have them.
-pub(crate) fn causes() -> NameTable<12>
+/// The causes, each at the place of its number in the table.
+const CAUSES: [UriCause; 12] = [
+    UriCause::NotAUri,
+    UriCause::NotFile,
+    UriCause::HasHost,
+    UriCause::OutsideBase,
+    UriCause::NotUtf8,
+    UriCause::TooLong,
+    UriCause::NulByte,
+    UriCause::Absolute,
+    UriCause::Empty,
+    UriCause::DotPart,
+    UriCause::Reserved,
+    UriCause::TooDeep,
+];
+
+/// The table of the causes' names, as messages have them.
+fn causes() -> NameTable<12>
     ensures { result ≡ spec.causes }
 {
     rows! {
-        1 => "NotAUri",
-        2 => "NotFile",
-        3 => "HasHost",
-        4 => "OutsideBase",
-        5 => "NotUtf8",
-        6 => "TooLong",
-        7 => "NulByte",
-        8 => "Absolute",
-        9 => "Empty",
-        10 => "DotPart",
-        11 => "Reserved",
-        12 => "TooDeep",
+        0 => "NotAUri",
+        1 => "NotFile",
+        2 => "HasHost",
+        3 => "OutsideBase",
+        4 => "NotUtf8",
+        5 => "TooLong",
+        6 => "NulByte",
+        7 => "Absolute",
+        8 => "Empty",
+        9 => "DotPart",
+        10 => "Reserved",
+        11 => "TooDeep",
     }
 }
 
-/// The row of a cause.
-pub(crate) fn row_of(cause: UriCause) -> u64
-    ensures { result ≡ spec.row cause }
-{
-    match cause {
-        UriCause::NotAUri => 1,
-        UriCause::NotFile => 2,
-        UriCause::HasHost => 3,
-        UriCause::OutsideBase => 4,
-        UriCause::NotUtf8 => 5,
-        UriCause::TooLong => 6,
-        UriCause::NulByte => 7,
-        UriCause::Absolute => 8,
-        UriCause::Empty => 9,
-        UriCause::DotPart => 10,
-        UriCause::Reserved => 11,
-        UriCause::TooDeep => 12,
+impl UriCause {
+    /// The cause of this name.
+    pub(crate) fn named(name: &str) -> Option<UriCause>
+        ensures { result ≡ spec.cause_named name.now }
+    {
+        let number = causes().find_word(name)? as usize;
+        if number < CAUSES.len() {
+            Some(CAUSES[number])
+        } else {
+            None
+        }
     }
-}
 
-/// The cause of a row.
-fn cause_at(row: u64) -> Option<UriCause>
-    ensures { result ≡ spec.cause_at row }
-{
-    match row {
-        1 => Some(UriCause::NotAUri),
-        2 => Some(UriCause::NotFile),
-        3 => Some(UriCause::HasHost),
-        4 => Some(UriCause::OutsideBase),
-        5 => Some(UriCause::NotUtf8),
-        6 => Some(UriCause::TooLong),
-        7 => Some(UriCause::NulByte),
-        8 => Some(UriCause::Absolute),
-        9 => Some(UriCause::Empty),
-        10 => Some(UriCause::DotPart),
-        11 => Some(UriCause::Reserved),
-        12 => Some(UriCause::TooDeep),
-        _ => None,
+    /// The name of the cause as a JSON value.
+    pub(crate) fn value(self, alloc: Global) -> Result<Value, AllocError>
+        ensures { IfOk result (λ v. view v ≡ string (spec.name self)) }
+    {
+        let names = causes();
+        match names.find_number(self as u64) {
+            Some(name) => Value::try_from_str(alloc, name),
+            None => Ok(Value::Null),
+        }
     }
-}
-
-/// The cause of this name.
-pub(crate) fn cause_named(name: &str) -> Option<UriCause>
-    ensures { result ≡ spec.cause_named name.now }
-{
-    cause_at(causes().find_word(name)?)
 }

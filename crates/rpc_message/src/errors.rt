@@ -2,7 +2,11 @@ ghost use Rattle.std.specs.Prelude.{◌≡◌, IfOk};
 ghost use Rattle.serde_json.specs.View.{view};
 ghost use Rattle.rpc_message.specs.Candidates as spec;
 
-use crate::causes::cause_named;
+use crate::causes::UriCause;
+use crate::codes::{
+    ALREADY_OPEN, BACKWARD_RANGE, BAD_PARAMS, BAD_POSITION, BAD_REVISION, BAD_URI, CLASH,
+    INVALID_REQUEST, NOT_OPEN, PARSE_ERROR, TEXT_TOO_LONG, UNKNOWN_METHOD,
+};
 use crate::forms::bytes_of;
 use crate::members::member_named;
 use crate::refusals::Refusal;
@@ -20,7 +24,7 @@ fn bad_uri(facts: &Value) -> Option<Refusal>
     ensures { result ≡ spec.bad_uri (view facts.now) }
 {
     let name = facts.get("cause").and_then(Value::as_str)?;
-    Some(Refusal::BadUri(cause_named(name)?))
+    Some(Refusal::BadUri(UriCause::named(name)?))
 }
 
 fn bad_revision(facts: &Value) -> Option<Refusal>
@@ -59,11 +63,11 @@ fn plain(code: u64) -> Option<Refusal>
     ensures { result ≡ spec.plain code }
 {
     match code {
-        32700 => Some(Refusal::ParseError),
-        32600 => Some(Refusal::InvalidRequest),
-        32601 => Some(Refusal::UnknownMethod),
-        32001 => Some(Refusal::NotOpen),
-        32002 => Some(Refusal::AlreadyOpen),
+        PARSE_ERROR => Some(Refusal::ParseError),
+        INVALID_REQUEST => Some(Refusal::InvalidRequest),
+        UNKNOWN_METHOD => Some(Refusal::UnknownMethod),
+        NOT_OPEN => Some(Refusal::NotOpen),
+        ALREADY_OPEN => Some(Refusal::AlreadyOpen),
         _ => None,
     }
 }
@@ -75,13 +79,13 @@ fn with_facts(alloc: Global, code: u64, facts: &Value) -> Result<Option<Refusal>
     let edit = facts.get("edit").and_then(Value::as_u64);
     let length = facts.get("length").and_then(Value::as_u64);
     match code {
-        32602 => Ok(bad_params(facts)),
-        32003 => Ok(bad_uri(facts)),
-        32004 => Ok(edit.map(Refusal::BadPosition)),
-        32005 => Ok(bad_revision(facts)),
-        32006 => Ok(length.map(Refusal::TextTooLong)),
-        32007 => clash(alloc, facts),
-        32008 => Ok(edit.map(Refusal::BackwardRange)),
+        BAD_PARAMS => Ok(bad_params(facts)),
+        BAD_URI => Ok(bad_uri(facts)),
+        BAD_POSITION => Ok(edit.map(Refusal::BadPosition)),
+        BAD_REVISION => Ok(bad_revision(facts)),
+        TEXT_TOO_LONG => Ok(length.map(Refusal::TextTooLong)),
+        CLASH => clash(alloc, facts),
+        BACKWARD_RANGE => Ok(edit.map(Refusal::BackwardRange)),
         _ => Ok(None),
     }
 }

@@ -7,6 +7,7 @@
 mod answers;
 mod bodies;
 mod causes;
+mod codes;
 mod errors;
 mod faults;
 mod forms;
@@ -24,12 +25,13 @@ mod values;
 
 pub use answers::write_message;
 pub use causes::UriCause;
+pub use codes::code_table;
 pub use faults::{Cause, MessageFault};
 pub use members::Member;
 pub use messages::{FromEditor, Incoming, MessageId, ToEditor};
 pub use methods::{Method, method_table};
 pub use reading::read_message;
-pub use refusals::{Refusal, code_table};
+pub use refusals::Refusal;
 pub use replies::read_reply;
 pub use requests::write_request;
 

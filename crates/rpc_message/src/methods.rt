@@ -1,7 +1,12 @@
-ghost use Rattle.std.specs.Prelude.{◌≡◌};
+ghost use Rattle.std.specs.Prelude.{◌≡◌, IfOk};
+ghost use Rattle.std.specs.Str.{bytes_eq};
+ghost use Rattle.serde_json.specs.Data.{string};
+ghost use Rattle.serde_json.specs.View.{view};
 ghost use Rattle.rpc_message.specs.Methods as spec;
 
 use name_table::{NameTable, rows};
+use serde_json::Value;
+use std::alloc::{AllocError, Global};
 
 /// What an editor may ask for: a row of the table of methods.
 #[derive(Clone, Copy, Debug, PartialEq, Eq)]
@@ -18,30 +23,48 @@ pub enum Method {
     Shutdown,
 }
 
+/// The methods, each at the place of its number in the table.
+const METHODS: [Method; 5] = [
+    Method::Open,
+    Method::Close,
+    Method::Edit,
+    Method::Cursor,
+    Method::Shutdown,
+];
+
 /// The table of methods.
 pub fn method_table() -> NameTable<5>
     ensures { result ≡ spec.methods }
 {
-    rows! { 1 => "open", 2 => "close", 3 => "edit", 4 => "cursor", 5 => "shutdown" }
+    rows! { 0 => "open", 1 => "close", 2 => "edit", 3 => "cursor", 4 => "shutdown" }
 }
 
-/// The method of a row.
-fn method_at(row: u64) -> Option<Method>
-    ensures { result ≡ spec.method_at row }
-{
-    match row {
-        1 => Some(Method::Open),
-        2 => Some(Method::Close),
-        3 => Some(Method::Edit),
-        4 => Some(Method::Cursor),
-        5 => Some(Method::Shutdown),
-        _ => None,
+impl Method {
+    /// The method of this name.
+    pub(crate) fn named(name: &str) -> Option<Method>
+        ensures { result ≡ spec.method_named name.now }
+    {
+        let number = method_table().find_word(name)? as usize;
+        if number < METHODS.len() {
+            Some(METHODS[number])
+        } else {
+            None
+        }
     }
-}
 
-/// The method of this name.
-pub(crate) fn method_named(name: &str) -> Option<Method>
-    ensures { result ≡ spec.method_named name.now }
-{
-    method_at(method_table().find_word(name)?)
+    /// Whether the method has this name.
+    pub(crate) fn is_named(self, name: &str) -> bool
+        ensures { result ≡ bytes_eq name.now (spec.name self) }
+    {
+        let table = method_table();
+        name == table.find_number(self as u64).unwrap_or("")
+    }
+
+    /// The name of the method as a JSON value.
+    pub(crate) fn value(self, alloc: Global) -> Result<Value, AllocError>
+        ensures { IfOk result (λ v. view v ≡ string (spec.name self)) }
+    {
+        let table = method_table();
+        Value::try_from_str(alloc, table.find_number(self as u64).unwrap_or(""))
+    }
 }

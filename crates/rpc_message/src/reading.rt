@@ -15,7 +15,7 @@ use crate::bodies::value_of;
 use crate::faults::{Cause, Fault, MessageFault};
 use crate::ids::id_form;
 use crate::messages::{FromEditor, Incoming, MessageId};
-use crate::methods::method_named;
+use crate::methods::Method;
 use crate::params::called;
 use serde_json::Value;
 use std::alloc::{AllocError, Global};
@@ -73,7 +73,7 @@ fn is_valid(value: &Value, id: &Option<MessageId>) -> bool
 fn unless_unknown(alloc: Global, name: &str, value: &Value) -> Result<FromEditor, Fault>
     ensures { Reads result (spec.unless_unknown (method_named name.now) (view value.now)) }
 {
-    match method_named(name) {
+    match Method::named(name) {
         Some(method) => called(alloc, method, value),
         None => Err(Fault::Cause(Cause::UnknownMethod)),
     }

@@ -1,10 +1,13 @@
-ghost use Rattle.std.specs.Prelude.{◌≡◌};
+ghost use Rattle.std.specs.Prelude.{◌≡◌, ◌<◌, ◌^◌};
 ghost use Rattle.rpc_message.specs.Codes as spec;
 
 use crate::causes::UriCause;
+use crate::codes::{
+    ALREADY_OPEN, BACKWARD_RANGE, BAD_PARAMS, BAD_POSITION, BAD_REVISION, BAD_URI, CLASH,
+    INVALID_REQUEST, NOT_OPEN, PARSE_ERROR, TEXT_TOO_LONG, UNKNOWN_METHOD,
+};
 use crate::faults::Cause;
 use crate::members::Member;
-use name_table::{NameTable, rows};
 use tt_base::Blob;
 
 /// Why a request is refused: a row of the table of codes, with the values of its data.
@@ -61,44 +64,24 @@ impl From<Cause> for Refusal {
     }
 }
 
-/// The codes of refusals with their messages. Each code stands without its sign: all are below 0, and
-/// the numbers of a table are not.
-pub fn code_table() -> NameTable<12>
-    ensures { result ≡ spec.table }
-{
-    rows! {
-        32700 => "parse error",
-        32600 => "invalid request",
-        32601 => "method not found",
-        32602 => "invalid params",
-        32001 => "file is not open",
-        32002 => "file is already open",
-        32003 => "bad uri",
-        32004 => "bad position",
-        32005 => "bad revision",
-        32006 => "text too long",
-        32007 => "two changes have one name",
-        32008 => "backward range",
-    }
-}
-
 /// The code of a refusal, without its sign.
-pub(crate) fn code_of(refusal: &Refusal) -> u16
-    ensures { result ≡ spec.code refusal.now }
+pub(crate) fn code_of(refusal: &Refusal) -> u64
+    ensures code { result ≡ spec.code refusal.now }
+    ensures small { result < 2 ^ 16 }
 {
     match refusal {
-        Refusal::ParseError => 32700,
-        Refusal::InvalidRequest => 32600,
-        Refusal::UnknownMethod => 32601,
-        Refusal::BadParams(_) => 32602,
-        Refusal::NotOpen => 32001,
-        Refusal::AlreadyOpen => 32002,
-        Refusal::BadUri(_) => 32003,
-        Refusal::BadPosition(_) => 32004,
-        Refusal::BadRevision { .. } => 32005,
-        Refusal::TextTooLong(_) => 32006,
-        Refusal::Clash { .. } => 32007,
-        Refusal::BackwardRange(_) => 32008,
+        Refusal::ParseError => PARSE_ERROR,
+        Refusal::InvalidRequest => INVALID_REQUEST,
+        Refusal::UnknownMethod => UNKNOWN_METHOD,
+        Refusal::BadParams(_) => BAD_PARAMS,
+        Refusal::NotOpen => NOT_OPEN,
+        Refusal::AlreadyOpen => ALREADY_OPEN,
+        Refusal::BadUri(_) => BAD_URI,
+        Refusal::BadPosition(_) => BAD_POSITION,
+        Refusal::BadRevision { .. } => BAD_REVISION,
+        Refusal::TextTooLong(_) => TEXT_TOO_LONG,
+        Refusal::Clash { .. } => CLASH,
+        Refusal::BackwardRange(_) => BACKWARD_RANGE,
     }
 }
 
@@ -107,6 +90,6 @@ impl Refusal {
     pub fn code(&self) -> i64
         ensures { result ≡ spec.signed_code self.now }
     {
-        -i64::from(code_of(self))
+        -(code_of(self) as i64)
     }
 }

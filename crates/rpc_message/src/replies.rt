@@ -19,6 +19,7 @@ use crate::faults::{Cause, MessageFault};
 use crate::forms::{edits_of, uri_of};
 use crate::ids::id_form;
 use crate::messages::{MessageId, ToEditor};
+use crate::methods::Method;
 use serde_json::Value;
 use std::alloc::{AllocError, Global};
 
@@ -82,7 +83,7 @@ fn notice(alloc: Global, method: &str, value: &Value) -> Result<Option<ToEditor>
     ensures signed { IfOk result (λ reply. IfSome reply HasSignedId) }
 {
     match value.get("params") {
-        Some(params) if method == "edit" => edit_notice(alloc, params),
+        Some(params) if Method::Edit.is_named(method) => edit_notice(alloc, params),
         _ => Ok(None),
     }
 }

@@ -1,4 +1,5 @@
 ghost use Rattle.std.specs.Prelude.{◌≡◌, Some, Ok, IfOk, map, false};
+ghost use Rattle.serde_json.specs.Data.{string};
 ghost use Rattle.serde_json.specs.View.{view, items_view};
 ghost use Rattle.serde_json.specs.Written.{compact_text};
 ghost use Rattle.rpc_message.specs.Messages.{message_of};
@@ -9,6 +10,7 @@ ghost use Rattle.rpc_message.specs.declared.messages.FromEditor.TheVariants as f
 ghost use Rattle.rpc_message.specs.declared.messages.MessageId.TheVariants.{Number};
 
 use crate::messages::FromEditor;
+use crate::methods::Method;
 use crate::values::{edit_params, span_value, text_value};
 use serde_json::{Map, Value, json};
 use std::alloc::{AllocError, Global};
@@ -56,16 +58,16 @@ fn params(alloc: Global, message: &FromEditor) -> Result<Value, AllocError>
     }
 }
 
-fn method(message: &FromEditor) -> &'static str
-    ensures { result.now ≡ spec.method message.now }
+fn method(alloc: Global, message: &FromEditor) -> Result<Value, AllocError>
+    ensures { IfOk result (λ v. view v ≡ string (spec.method message.now)) }
 {
     match message {
-        FromEditor::Open { .. } => "open",
-        FromEditor::Close { .. } => "close",
-        FromEditor::Edit { .. } => "edit",
-        FromEditor::Cursor { .. } => "cursor",
-        FromEditor::Shutdown => "shutdown",
-        FromEditor::Response => "",
+        FromEditor::Open { .. } => Method::Open.value(alloc),
+        FromEditor::Close { .. } => Method::Close.value(alloc),
+        FromEditor::Edit { .. } => Method::Edit.value(alloc),
+        FromEditor::Cursor { .. } => Method::Cursor.value(alloc),
+        FromEditor::Shutdown => Method::Shutdown.value(alloc),
+        FromEditor::Response => Value::try_from_str(alloc, ""),
     }
 }
 
@@ -74,7 +76,8 @@ fn request(alloc: Global, id: u64, message: &FromEditor) -> Result<Value, AllocE
     ensures characters { IfOk result (λ v. HasCharacters message.now) }
 {
     let params = params(alloc, message)?;
-    json!(in alloc; {"id": id, "jsonrpc": "2.0", "method": (method(message)), "params": params})
+    let method = method(alloc, message)?;
+    json!(in alloc; {"id": id, "jsonrpc": "2.0", "method": method, "params": params})
 }
 
 /// The body of a request of an editor: compact JSON, with the members in rising order of their names.

@@ -431,7 +431,7 @@ fn faults_and_names_are_told(rt: HostRuntime) -> Result<(), Fail> {
     }
     let memory = MessageFault::Memory.to_string(rt.alloc())?;
     assert_eq!(rt; memory.as_str(), "out of memory");
-    assert_eq!(rt; method_table().find_word("edit"), Some(3));
+    assert_eq!(rt; method_table().find_word("edit"), Some(2));
     assert_eq!(rt; method_table().find_word("save"), None);
     Ok(())
 }

@@ -5,7 +5,7 @@ ghost use Rattle.delta.specs.Cells.{base_length};
 use crate::jobs::{Job, Site};
 use delta::{Delta, DeltaBuilder};
 use std::alloc::{AllocError, Global};
-use tt_base::{Position, Text, TextEdit};
+use tt_base::{List, Position, Text, TextEdit};
 
 /// The characters of a line, with its LF.
 pub const LINE: usize = 40;
@@ -81,5 +81,23 @@ pub fn edits_of(alloc: Global, size: usize, count: usize) -> Result<Vec<TextEdit
         })?;
         line = line.saturating_add(stride);
     }
+    Ok(edits)
+}
+
+/// One edit, which puts a text of so many characters at one place.
+pub fn one_edit(alloc: Global, size: usize) -> Result<List<TextEdit>, AllocError> {
+    let place = Position {
+        line: 0,
+        character: 1,
+    };
+    let mut edits = List::empty(alloc)?;
+    edits.push(
+        alloc,
+        TextEdit {
+            start: place,
+            end: place,
+            replacement: text_of(alloc, size)?,
+        },
+    )?;
     Ok(edits)
 }

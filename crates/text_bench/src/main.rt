@@ -20,11 +20,14 @@ mod pass_daemon;
 mod pass_editor;
 mod pass_list;
 mod position;
+mod read_edit;
+mod read_open;
 mod to_edits;
 mod typed;
 mod uris;
 mod utf8;
 mod vectors;
+mod write_edit;
 
 use crate::jobs::{Job, job_of};
 use crate::measured::Measured;
@@ -49,6 +52,8 @@ fn run(rt: &(impl Clock + AllocGlobal), operation: &str, job: Job) -> Result<Mea
         "pass_list" => pass_list::run(rt, job),
         "position_of" => position::run(rt, job),
         "position_vector" => position::run_vector(rt, job),
+        "read_edit" => read_edit::run(rt, job),
+        "read_open" => read_open::run(rt, job),
         "to_edits" => to_edits::run(rt, job),
         "typed" => typed::run(rt, job),
         "typed_vector" => typed::run_vector(rt, job),
@@ -56,6 +61,7 @@ fn run(rt: &(impl Clock + AllocGlobal), operation: &str, job: Job) -> Result<Mea
         "uris_plain" => uris::run_plain(rt, job),
         "utf8" => utf8::run(rt, job),
         "utf8_vector" => utf8::run_vector(rt, job),
+        "write_edit" => write_edit::run(rt, job),
         _ => bail!("there is no operation {operation}"),
     }
 }
