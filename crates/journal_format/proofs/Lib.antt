@@ -1,0 +1,6 @@
+pub mod PartLaws
+pub mod EncodingLaws
+pub mod Loops
+pub mod ImageLaws
+pub mod Fits
+pub mod Unique
