@@ -1,0 +1,3 @@
+pub mod TypingLemmas
+pub mod HearingLemmas
+pub mod Rows

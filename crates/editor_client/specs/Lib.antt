@@ -1,0 +1,5 @@
+pub mod Editor
+pub mod Requests
+pub mod Hearing
+pub mod Faults
+pub mod Laws
