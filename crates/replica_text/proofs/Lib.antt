@@ -1,0 +1,14 @@
+mod OrderLemmas
+mod MemberLemmas
+mod SkipLemmas
+mod GrowsLemmas
+mod EffectLemmas
+mod RunLemmas
+mod JoinLemmas
+mod PlaceLemmas
+mod OpsLemmas
+mod GapLemmas
+mod TextLemmas
+mod CutLemmas
+mod LeadLemmas
+mod OrderOfArrival
