@@ -1,10 +1,10 @@
 -- Effects of two steps compose to that of both.
-use Rattle.std.proofs.Common.{◌≡◌, ◌⊎◌, ℕ, zero, suc, ◌+◌, Bool, true, false, cond, ◌&&◌, ◌||◌, List, [], ◌∷◌, ◌++◌, length, refl, sym, ap, ap₂, ◌∙◌, subst, arith, inl, inr}
+use Rattle.std.proofs.Common.{◌≡◌, ℕ, suc, ◌+◌, Bool, true, false, cond, ◌&&◌, ◌||◌, List, [], ◌∷◌, refl, sym, ap, ap₂, ◌∙◌, arith, inl, inr}
 use Rattle.std.specs.List.{count_by}
 use Rattle.std.proofs.lemmas.List.Sums.{sum_by-cons}
-use Rattle.delta.specs.Cells.{Cells, nothing, covers, inserts, normal, base_length, result_length, one_if}
-use Rattle.delta.specs.Marks.{Mark, New, Place, applied_marks, marks_from, marks_of, composed}
-use Rattle.delta.proofs.CellsLemmas.{base_length-inserts, result_length-inserts, result_length-kept}
+use Rattle.delta.specs.Cells.{Cells, covers, normal, base_length, result_length, one_if}
+use Rattle.delta.specs.Marks.{New, Place, applied_marks, marks_from, composed}
+use Rattle.delta.proofs.CellsLemmas.{base_length-inserts, result_length-inserts}
 use Rattle.delta.proofs.MarksLemmas.{applied_marks-inserts, marks_from-inserts}
 use Rattle.delta.proofs.NormalLemmas.{applied_marks-normal, marks_from-normal, base_length-normal, result_length-normal, IsNormal-normal}
 use Rattle.delta.proofs.LawLemmas.{marks_fix}
@@ -14,7 +14,7 @@ use Rattle.tt_base.specs.declared.ids.ElemId.{ElemId}
 use Rattle.tt_base.specs.declared.elements.Element.{Element}
 use Rattle.replica_text.specs.Ids.{same}
 use Rattle.replica_text.specs.Effect.{is_visible, Shown, step_of, change_of, compared, effect}
-use Rattle.replica_text.specs.Joined.{IsLater, Grows}
+use Rattle.replica_text.specs.Joined.{Grows}
 use Rattle.replica_text.proofs.OrderLemmas.{same_self, other_same}
 use Rattle.replica_text.proofs.GrowsLemmas.{new_before}
 

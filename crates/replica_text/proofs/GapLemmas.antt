@@ -1,7 +1,7 @@
 -- What a builder has after a few steps.
-use Rattle.std.proofs.Common.{◌≡◌, ℕ, ◌+◌, true, false, List, refl, sym, ap, ◌∙◌, subst, arith}
+use Rattle.std.proofs.Common.{◌≡◌, ℕ, ◌+◌, true, false, List, ap, ◌∙◌, arith}
 use Rattle.delta.specs.Cells.{Cells, base_length, nothing, covers, inserts, joined, keeping, inserting, deleting}
-use Rattle.delta.proofs.CellsLemmas.{inserts_none, joined_assoc, joined-covers, base_length-inserts, base_length-covers}
+use Rattle.delta.proofs.CellsLemmas.{inserts_none, joined_assoc, joined-covers, base_length-covers}
 
 kept_first : (n : ℕ) (d : Cells) → joined (joined nothing (keeping n)) d ≡ covers true n d
 kept_first n d =

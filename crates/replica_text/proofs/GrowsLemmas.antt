@@ -1,5 +1,5 @@
 -- Lists that grow keep growing, and what is new to the later one is new to the earlier.
-use Rattle.std.proofs.Common.{◌≡◌, ◌⊎◌, false, List, [], ◌∷◌, ◌++◌, refl, sym, ◌∙◌, subst, inl, inr}
+use Rattle.std.proofs.Common.{List, [], ◌∷◌, ◌++◌, refl, sym, ◌∙◌, subst, inl, inr}
 use Rattle.tt_base.specs.Elements.{IsNew}
 use Rattle.tt_base.specs.declared.ids.ElemId.{ElemId}
 use Rattle.tt_base.specs.declared.elements.Element.{Element}

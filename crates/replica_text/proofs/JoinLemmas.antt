@@ -1,5 +1,5 @@
 -- Joins of nothing, of a run, of a tombstone, and of two joins in turn.
-use Rattle.std.proofs.Common.{◌≡◌, ℕ, zero, suc, ◌+◌, Bool, true, false, ◌||◌, List, [], ◌∷◌, ◌++◌, Option, length, refl, sym, ap, ap₂, ◌∙◌, subst, inl, inr}
+use Rattle.std.proofs.Common.{◌≡◌, ℕ, Bool, true, false, ◌||◌, List, [], ◌∷◌, ◌++◌, Option, length, refl, sym, ap, ap₂, ◌∙◌, subst, inl}
 use Rattle.std.specs.List.{count_by, list_any}
 use Rattle.std.proofs.lemmas.List.{append-nil}
 use Rattle.std.proofs.lemmas.List.Folds.{list_any-append}
@@ -12,9 +12,9 @@ use Rattle.tt_base.specs.declared.elements.Element.{Element}
 use Rattle.replica_text.specs.Ids.{same, next_id, is_in_run, is_known}
 use Rattle.replica_text.specs.Tree.{Tree, walk, IsTree, without}
 use Rattle.replica_text.specs.Ops.{with_run}
-use Rattle.replica_text.specs.Effect.{is_visible, step_of, change_of, compared, effect}
+use Rattle.replica_text.specs.Effect.{is_visible, step_of, change_of, compared}
 use Rattle.replica_text.specs.Placed.{placed, Stops, run_of}
-use Rattle.replica_text.specs.Joined.{IsLater, Grows, Joins}
+use Rattle.replica_text.specs.Joined.{Grows, Joins}
 use Rattle.replica_text.proofs.MemberLemmas.{not_before, back_distinct}
 use Rattle.replica_text.proofs.SkipLemmas.{IsParent}
 use Rattle.replica_text.proofs.GrowsLemmas.{grows_itself, grows_trans, grows_behind, grows_between, new_before, AllNew}

@@ -1,5 +1,5 @@
 -- The effect leads from the visible text before to that of the later list.
-use Rattle.std.proofs.Common.{◌≡◌, ◌⊎◌, ℕ, Bool, true, false, List, [], ◌∷◌, ◌++◌, refl, sym, ap, ap₂, ◌∙◌, inl, inr}
+use Rattle.std.proofs.Common.{◌≡◌, ℕ, Bool, true, false, List, [], ◌∷◌, ◌++◌, refl, sym, ap, ap₂, ◌∙◌, inl, inr}
 use Rattle.delta.specs.Cells.{Cells, applied}
 use Rattle.delta.proofs.ApplyLemmas.{applied-inserts}
 use Rattle.delta.proofs.LawLemmas.{applied-normal}

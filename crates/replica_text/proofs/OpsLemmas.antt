@@ -4,7 +4,7 @@ use Rattle.tt_base.specs.declared.ids.ElemId.{ElemId}
 use Rattle.tt_base.specs.declared.text_ops.TextOp.{TextOp}
 use Rattle.replica_text.specs.Ids.{next_id}
 use Rattle.replica_text.specs.Tree.{Tree, without}
-use Rattle.replica_text.specs.Ops.{without_run, after_op, after_ops, known_after, all_known_after, IsRunKnown, MayFollow, AllMayFollow}
+use Rattle.replica_text.specs.Ops.{without_run, after_op, after_ops, known_after, all_known_after, IsRunKnown, AllMayFollow}
 use Rattle.replica_text.proofs.PlaceLemmas.{shifted, shifted_none, shifted_next}
 
 pub after_ops-append : (xs ys : List TextOp) (tree : Tree) → after_ops (xs ++ ys) tree ≡ after_ops ys (after_ops xs tree)

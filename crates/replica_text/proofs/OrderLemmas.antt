@@ -1,5 +1,5 @@
 -- The order of ids: all that other proofs need of it.
-use Rattle.std.proofs.Common.{◌≡◌, ◌<◌, ◌==◌, suc, Bool, true, false, cond, refl, sym, ap, ◌∙◌, subst, arith, inl, inr, lt-ltb}
+use Rattle.std.proofs.Common.{◌≡◌, ◌==◌, suc, Bool, true, false, cond, refl, sym, ap, ◌∙◌, subst, arith, inl, inr, lt-ltb}
 use Rattle.std.specs.declared.cmp.Ordering.{Ordering}
 use Rattle.std.specs.declared.cmp.Ordering.TheVariants.{Less, Equal, Greater}
 use Rattle.std.specs.Ordering.{nat_cmp, is_lt, is_eq, ordering_then, ordering_reverse}

@@ -6,7 +6,7 @@ use Rattle.tt_base.specs.declared.ids.ElemId.{ElemId}
 use Rattle.tt_base.specs.declared.elements.Element.{Element}
 use Rattle.replica_text.specs.Ids.{less, same}
 use Rattle.replica_text.specs.Tree.{Tree, Leaf, Node, with_sibling, with_child, with_element, without}
-use Rattle.replica_text.specs.Laws.{IsNotParent, AreApart}
+use Rattle.replica_text.specs.Laws.{AreApart}
 use Rattle.replica_text.proofs.OrderLemmas.{less_trans, same_one, other_same, not_back, greater_other}
 use Rattle.replica_text.proofs.RunLemmas.{deadened, deadened_id}
 

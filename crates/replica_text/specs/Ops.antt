@@ -1,7 +1,6 @@
 -- What the operations of a change do to the insertion tree of a text, and where they are possible.
 use Rattle.std.specs.Prelude.{◌≡◌, ℕ, zero, suc, ◌+◌, ◌^◌, ◌≤◌, Bool, true, false, ◌||◌, List, [], ◌∷◌, Option, Some, None, length}
 use Rattle.tt_base.specs.declared.ids.ElemId.{ElemId}
-use Rattle.tt_base.specs.declared.elements.Element.{Element}
 use Rattle.tt_base.specs.declared.text_ops.TextOp.{TextOp}
 use Rattle.tt_base.specs.declared.text_ops.TextOp.TheVariants.{Insert, Delete}
 use Rattle.replica_text.specs.Ids.{less, next_id, is_in_run}

@@ -1,5 +1,5 @@
-use Rattle.std.proofs.Common.{◌≡◌, ℕ, ◌+◌, ◌-◌, ◌/◌, ◌<◌, ◌≤◌, ◌^◌, true, List, Bool, IfOk, refl, subst, sym, ap, ◌∙◌, arith}
-use Rattle.delta.specs.Cells.{Cells, covers, nothing, normal}
+use Rattle.std.proofs.Common.{◌≡◌, ℕ, ◌+◌, ◌-◌, ◌/◌, ◌<◌, ◌≤◌, ◌^◌, true, List, Bool, refl, subst, sym, ap, ◌∙◌, arith}
+use Rattle.delta.specs.Cells.{covers, nothing, normal}
 use Rattle.tt_base.specs.declared.ids.ElemId.{ElemId}
 use Rattle.tt_base.specs.declared.elements.Element.{Element}
 use Rattle.replica_text.specs.Ids.{is_known}

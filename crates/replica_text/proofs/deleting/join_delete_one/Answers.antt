@@ -1,6 +1,6 @@
-use Rattle.std.proofs.Common.{◌≡◌, ℕ, ◌+◌, ◌-◌, ◌<◌, true, false, List, ◌∷◌, ◌++◌, length, take, rules, IfOk, subst, sym, ap, ap₂, ◌∙◌, arith}
+use Rattle.std.proofs.Common.{◌≡◌, ◌+◌, ◌-◌, ◌<◌, true, false, List, ◌∷◌, ◌++◌, length, rules, subst, sym, ap, ap₂, ◌∙◌, arith}
 use Rattle.std.specs.List.{count_by}
-use Rattle.delta.specs.Cells.{Cells, covers, nothing, normal}
+use Rattle.delta.specs.Cells.{covers, nothing, normal}
 use Rattle.tt_base.specs.Elements.{is_alive, dead}
 use Rattle.tt_base.specs.declared.elements.Element.{Element}
 use Rattle.replica_text.specs.Tree.{without}

@@ -1,7 +1,7 @@
-use Rattle.std.proofs.Common.{◌≡◌, ℕ, ◌+◌, ◌-◌, ◌||◌, true, List, ◌++◌, length, take, drop, Bool, IfOk, subst, sym, ap, ap₂, ◌∙◌, arith}
+use Rattle.std.proofs.Common.{◌≡◌, ℕ, ◌+◌, ◌-◌, ◌||◌, true, List, ◌++◌, length, take, drop, Bool, subst, sym, ap, ap₂, ◌∙◌, arith}
 use Rattle.std.specs.List.{count_by}
 use Rattle.std.proofs.lemmas.List.{take-append-drop}
-use Rattle.delta.specs.Cells.{Cells, covers, inserts, nothing, normal}
+use Rattle.delta.specs.Cells.{covers, inserts, nothing, normal}
 use Rattle.tt_base.specs.Elements.{is_alive}
 use Rattle.tt_base.specs.declared.ids.ElemId.{ElemId}
 use Rattle.tt_base.specs.declared.elements.Element.{Element}

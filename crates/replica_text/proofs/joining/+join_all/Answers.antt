@@ -1,6 +1,6 @@
-use Rattle.std.proofs.Common.{◌≡◌, ℕ, ◌+◌, ◌-◌, ◌/◌, ◌<◌, ◌≤◌, true, List, [], ◌∷◌, ◌++◌, length, take, drop, get_or, Bool, IfOk, refl, subst, sym, ap, ap₂, ◌∙◌, arith}
+use Rattle.std.proofs.Common.{◌≡◌, ℕ, ◌/◌, ◌<◌, ◌≤◌, true, List, [], ◌∷◌, ◌++◌, length, take, drop, get_or, Bool, IfOk, subst, sym, ap, ap₂, ◌∙◌, arith}
 use Rattle.std.proofs.lemmas.List.{take-append-drop, nil_from_length}
-use Rattle.delta.specs.Cells.{Cells, covers, nothing, normal}
+use Rattle.delta.specs.Cells.{covers, nothing, normal}
 use Rattle.tt_base.specs.declared.ids.ElemId.{ElemId}
 use Rattle.tt_base.specs.declared.elements.Element.{Element}
 use Rattle.tt_base.specs.declared.text_ops.TextOp.{TextOp}

@@ -1,6 +1,4 @@
-use Rattle.std.proofs.Common.{List, IfOk, subst, sym}
-use Rattle.delta.specs.Cells.{Cells}
-use Rattle.tt_base.specs.declared.elements.Element.{Element}
+use Rattle.std.proofs.Common.{IfOk, subst, sym}
 use Rattle.tt_base.specs.declared.text_ops.TextOp.{TextOp}
 use Rattle.replica_text.specs.Ops.{after_op, known_after}
 use Rattle.replica_text.specs.Joined.{Joins}

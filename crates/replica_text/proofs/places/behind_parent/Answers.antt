@@ -1,4 +1,4 @@
-use Rattle.std.proofs.Common.{◌≡◌, List, ◌++◌, Option, Some, take, drop, subst, sym, ap, ◌∙◌, add-one}
+use Rattle.std.proofs.Common.{List, ◌++◌, Option, Some, take, drop, subst, sym, ap, ◌∙◌, add-one}
 use Rattle.tt_base.specs.declared.ids.ElemId.{ElemId}
 use Rattle.tt_base.specs.declared.elements.Element.{Element}
 use Rattle.replica_text.specs.Ids.{is_known}

@@ -1,6 +1,6 @@
-use Rattle.std.proofs.Common.{◌≡◌, Bool, true, false, cond, List, subst, sym}
+use Rattle.std.proofs.Common.{Bool, true, false, cond, List, subst, sym}
 use Rattle.std.specs.List.{insert}
-use Rattle.tt_base.specs.Elements.{IsNew, AreDistinct}
+use Rattle.tt_base.specs.Elements.{AreDistinct}
 use Rattle.tt_base.specs.declared.elements.Element.{Element}
 use Rattle.tt_base.proofs.ElementLemmas.{distinct-insert}
 use Rattle.replica_text.proofs.list_elements.ListElementsElements.insert.Goals as goal

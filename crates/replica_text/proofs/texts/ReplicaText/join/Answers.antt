@@ -1,4 +1,4 @@
-use Rattle.std.proofs.Common.{◌≡◌, List, ℕ, subst, ap, ◌∙◌}
+use Rattle.std.proofs.Common.{◌≡◌, List, subst, ap, ◌∙◌}
 use Rattle.delta.specs.Cells.{Cells, applied}
 use Rattle.tt_base.specs.declared.elements.Element.{Element}
 use Rattle.replica_text.specs.Ops.{after_ops, all_known_after}
