@@ -4,11 +4,17 @@
 //! The `Sure` forms never fail: their counts of faults are the constant 0.
 #![tactic(auto)]
 
+mod histories;
+mod mem_disks;
+mod overwrites;
 mod sinks;
 mod sources;
+mod sure_disks;
 
+pub use mem_disks::MemDisk;
 pub use sinks::{MemSink, SureSink};
 pub use sources::{MemSource, SureSource};
+pub use sure_disks::SureDisk;
 
 #[cfg(test)]
 mod tests;

@@ -100,7 +100,8 @@ impl Sink for MemSink {
     ghost use Rattle.std.specs.Prelude.{◌≡◌, ◌<◌, length};
     ghost use Rattle.outside.specs.Gives.{Gives};
     ghost use Rattle.outside_mem.specs.MemSink.{mem_sink, IsMemWrite};
-    ghost use Rattle.outside_mem.specs.Calls.{counted, faults_after};
+    ghost use Rattle.outside.specs.Calls.{counted};
+    ghost use Rattle.outside_mem.specs.Calls.{faults_after};
 
     ghost meaning = { mem_sink };
 

@@ -108,7 +108,8 @@ impl Source for MemSource {
     ghost use Rattle.std.specs.Prelude.{◌≡◌, ◌<◌, length};
     ghost use Rattle.outside.specs.Takes.{Takes};
     ghost use Rattle.outside_mem.specs.MemSource.{mem_source, mem_read_of};
-    ghost use Rattle.outside_mem.specs.Calls.{counted, faults_after};
+    ghost use Rattle.outside.specs.Calls.{counted};
+    ghost use Rattle.outside_mem.specs.Calls.{faults_after};
 
     ghost meaning = { mem_source };
 

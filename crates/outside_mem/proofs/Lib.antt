@@ -1,0 +1,4 @@
+pub mod DiskSteps
+pub mod MemSteps
+pub mod ReplaySteps
+mod Rows
