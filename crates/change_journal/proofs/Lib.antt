@@ -1,0 +1,4 @@
+pub mod Contents
+pub mod Calls
+pub mod Appends
+pub mod Trails
