@@ -22,6 +22,15 @@ rests_leaves disk recorded gates end rests =
     (record { seen = λ told. refl; synced = rests.synced; writes = rests.writes })
     (λ told. placed_stands disk.seen recorded gates end (rests.placed told))
 
+-- before any call of a disk that rests
+pub unmoved : (disk : DiskMeaning) (recorded : List Record) (gates : List ℕ) (end : ℕ) (added : List Record) → IsSound disk → Rests disk recorded gates end
+    → LeavesOnly disk disk (IsBeforeOrAfter recorded added)
+unmoved disk recorded gates end added sound rests =
+    started disk (IsBeforeOrAfter recorded added) sound
+    (settled_leaves disk disk.seen (IsBeforeOrAfter recorded added)
+    (record { seen = λ told. refl; synced = rests.synced; writes = rests.writes })
+    (λ told. inl (content_stands disk.seen recorded gates end (rests.placed told))))
+
 module _ (old : DiskMeaning) (recorded : List Record) (gates : List ℕ) (gate : ℕ) (added : List Record) (bytes : List ℕ) (sound : IsSound old)
     (adds : AddsGroup old recorded gates gate added bytes) where
   abbrev group_write : Write

@@ -12,6 +12,16 @@ use Rattle.change_journal.specs.Faults.{append_fault_for}
 use Rattle.change_journal.specs.Journal.{AppendsSo}
 use Rattle.change_journal.specs.declared.faults.AppendFault.TheVariants as append_faults
 
+-- no call was made, for want of memory
+pub none_ends : (disk : DiskMeaning) (steps : List Step) → AppendsSo steps disk disk (Err append_faults.Memory)
+none_ends disk steps = record {
+  before = [];
+  left = steps;
+  steps_are = refl;
+  behind = record { calls = refl; synced = refl; writes = refl };
+  seen = refl;
+}
+
 pub none_made : (disk : DiskMeaning) → MadeAll disk disk []
 none_made disk = record { behind = record { calls = refl; synced = refl; writes = refl }; seen = refl }
 

@@ -3,6 +3,7 @@ ghost use Rattle.change_journal.specs.Faults.{append_fault_for};
 ghost use Rattle.change_journal.specs.declared.faults.AppendFault.TheVariants as append_faults;
 
 use outside::DiskFault;
+use std::alloc::AllocError;
 use thiserror::Error;
 
 /// Why records were not appended. Whatever the cause, a crash leaves the records from before, and none or all of the
@@ -12,7 +13,8 @@ pub enum AppendFault {
     /// The disk failed at one of the four counted calls, and no later one was made.
     #[error("the disk failed")]
     Fault,
-    /// There was no memory for a write, which was not made, nor any call behind it.
+    /// There was no memory: none for the group, and then no call of the disk was made, or none for a write, which was
+    /// not made, nor any call behind it. A group that would end at 2 ^ 64 - 1 or behind it wants memory too.
     #[error("out of memory")]
     Memory,
 }
@@ -33,5 +35,13 @@ impl From<outside::Fault> for AppendFault {
 
     fn from(_fault: outside::Fault) -> AppendFault {
         AppendFault::Fault
+    }
+}
+
+impl From<AllocError> for AppendFault {
+    ghost from_gives = { λ _ given. given ≡ append_faults.Memory };
+
+    fn from(_error: AllocError) -> AppendFault {
+        AppendFault::Memory
     }
 }

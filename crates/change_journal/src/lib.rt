@@ -6,8 +6,9 @@
 #![tactic(auto)]
 
 mod faults;
+mod records;
 mod writes;
 
 pub use faults::AppendFault;
 pub use journal_format::{Known, Note, Record, record_kinds};
-pub use writes::append_group;
+pub use records::append_records;

@@ -13,16 +13,9 @@ use crate::faults::AppendFault;
 use outside::Disk;
 use std::alloc::Global;
 
-/// Appends a group of records to a disk, behind the closed gate at this offset, in bytes from 0: writes what stands
-/// behind an open gate, which is the group and a closed gate as `journal_format::write_group` spells them, makes that
-/// durable, opens the gate, which is one byte, and makes that durable.
-///
-/// While it goes on, whatever a crash leaves stands for the records from before, and for none or all of the new ones,
-/// also where a call fails; when it has answered Ok, for all of them. The closed gate is then the last byte written
-/// behind the group. `Fault`: the disk failed at one of the four counted calls, and no later one was made. `Memory`:
-/// a write wanted memory and was not made, nor any call behind it. After either the disk is read again before more is
-/// appended. A journal as a value over a disk, which keeps its closed gate and its records, comes next.
-pub fn append_group<D: Disk>(
+/// Appends a group of records to a disk, behind the closed gate at this offset: writes what stands behind an open gate,
+/// which is the group and a closed gate as `journal_format::write_group` spells them, and opens the gate.
+pub(crate) fn append_group<D: Disk>(
     alloc: Global,
     disk: &mut D,
     gate: u64,
