@@ -1,0 +1,6 @@
+mod NodeLemmas
+mod OrderLemmas
+mod ReachedLemmas
+mod PlaceLemmas
+mod WalkLemmas
+mod WorkLemmas

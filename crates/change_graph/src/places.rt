@@ -1,0 +1,50 @@
+ghost use Rattle.std.specs.Prelude.{◌≡◌, ◌||◌, [], ◌∷◌, OnOk};
+ghost use Rattle.std.specs.Ordering.{is_lt};
+ghost use Rattle.change_graph.specs.Walk.{place_cmp, has_place, is_place_of};
+ghost use Rattle.change_graph.specs.declared.places.Place as spec;
+
+use crate::nodes::Nodes;
+use std::alloc::AllocError;
+use std::collections::BTreeSet;
+use tt_base::Name;
+
+/// A change where it stands in the order of depths: behind all that it depends on.
+#[derive(Clone, Copy, Debug, PartialEq, Eq, PartialOrd, Ord)]
+pub struct Place {
+    pub depth: u64,
+    pub name: Name,
+}
+
+impl Place {
+    /// Whether it stands before the other one.
+    pub fn is_before(&self, other: &Place) -> bool
+        ensures { result ≡ is_lt (place_cmp self.now other.now) }
+    {
+        self.cmp(other).is_lt()
+    }
+}
+
+/// Puts the place of the name into the set, where it is held.
+fn enter_one(nodes: &Nodes, name: &Name, places: &mut BTreeSet<Place>) -> Result<(), AllocError>
+    ensures { OnOk result ((place : spec.Place) → has_place places.new.keys place
+        ≡ (has_place places.old.keys place || is_place_of nodes.now (name.now ∷ []) place)) }
+{
+    match nodes.depth(name) {
+        Some(depth) => {
+            places.insert(Place { depth, name: *name })?;
+            Ok(())
+        }
+        None => Ok(()),
+    }
+}
+
+/// Puts the places of the held ones of the names into the set.
+pub fn enter(nodes: &Nodes, names: &[Name], places: &mut BTreeSet<Place>) -> Result<(), AllocError>
+    ensures { OnOk result ((place : spec.Place) → has_place places.new.keys place
+        ≡ (has_place places.old.keys place || is_place_of nodes.now names.now place)) }
+{
+    for name in names {
+        enter_one(nodes, name, places)?;
+    }
+    Ok(())
+}
