@@ -1,5 +1,5 @@
 -- What a crash leaves behind each of the four calls of an append, and what the disk holds behind all.
-use Rattle.std.proofs.Common.{◌≡◌, ℕ, ◌+◌, List, [], ◌∷◌, ◌++◌, length, replicate, Ok, Result, refl, sym, subst, ◌∙◌, inl, inr}
+use Rattle.std.proofs.Common.{ℕ, ◌+◌, List, [], ◌∷◌, ◌++◌, length, replicate, Ok, Result, refl, sym, subst, ◌∙◌, inl, inr}
 use Rattle.outside.specs.Images.{Write, overwritten}
 use Rattle.outside.specs.Images as disk
 use Rattle.outside.specs.DiskMeaning.{DiskMeaning, IsSound}
@@ -10,7 +10,7 @@ use Rattle.outside.specs.declared.disks.DiskFault.{DiskFault}
 use Rattle.outside.proofs.Moments.{started, goes_on}
 use Rattle.journal_format.specs.declared.records.Record.{Record}
 use Rattle.journal_format.specs.Image.{open_group, StandsFor, IsPlaced}
-use Rattle.change_journal.specs.Journal.{Rests, AddsGroup, IsBeforeOrAfter, appended}
+use Rattle.change_journal.specs.Journal.{Rests, AddsGroup, IsBeforeOrAfter}
 use Rattle.change_journal.proofs.Contents.{placed_stands, content_stands, first_write, second_write, between, opened}
 use Rattle.change_journal.proofs.Calls.{IsSettled, settled_leaves, write_leaves, write_made, sync_made, sync_leaves}
 

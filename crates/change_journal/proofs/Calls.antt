@@ -1,7 +1,7 @@
 -- What a disk holds behind one call, and what a crash leaves then.
-use Rattle.std.proofs.Common.{◌≡◌, ℕ, List, [], ◌∷◌, ◌++◌, Ok, Err, Result, refl, sym, ap, subst, ◌∙◌}
+use Rattle.std.proofs.Common.{◌≡◌, ℕ, List, [], ◌∷◌, ◌++◌, Ok, Err, Result, sym, ap, subst, ◌∙◌}
 use Rattle.outside.specs.Images.{Write, IsImage, overwritten}
-use Rattle.outside.specs.DiskMeaning.{DiskMeaning, MayLeave}
+use Rattle.outside.specs.DiskMeaning.{DiskMeaning}
 use Rattle.outside.specs.DiskCalls.{Writes, Syncs}
 use Rattle.outside.specs.Moments.{LeavesNow}
 use Rattle.outside.specs.declared.disks.Fault.{Fault}

@@ -1,5 +1,5 @@
 -- The counted calls of a run so far, and how it ends.
-use Rattle.std.proofs.Common.{◌≡◌, ℕ, List, [], ◌∷◌, ◌++◌, Ok, Err, Result, refl, sym, ap, subst, ◌∙◌}
+use Rattle.std.proofs.Common.{◌≡◌, ℕ, List, [], ◌∷◌, ◌++◌, Ok, Err, refl, sym, ap, subst, ◌∙◌}
 use Rattle.outside.specs.Calls.{counted}
 use Rattle.outside.specs.Images.{Write, overwritten}
 use Rattle.outside.specs.DiskMeaning.{DiskMeaning}
@@ -7,7 +7,7 @@ use Rattle.outside.specs.DiskCalls.{Writes, Syncs}
 use Rattle.outside.specs.declared.disks.Fault.{Fault}
 use Rattle.outside.specs.declared.disks.DiskFault.{DiskFault}
 use Rattle.outside.specs.declared.disks.DiskFault.TheVariants.{Failed, Memory}
-use Rattle.change_journal.specs.Steps.{Step, ToWrite, ToSync, Trail, trail_of, made, all_made, IsBehind, MadeAll, MadeUntil, MadeFront}
+use Rattle.change_journal.specs.Steps.{Step, ToWrite, ToSync, Trail, trail_of, made, all_made, IsBehind, MadeAll}
 use Rattle.change_journal.specs.Faults.{append_fault_for}
 use Rattle.change_journal.specs.Journal.{AppendsSo}
 use Rattle.change_journal.specs.declared.faults.AppendFault.TheVariants as append_faults

@@ -1,6 +1,5 @@
 -- What a journal keeps on its disk, and what its calls do there (write-ahead logging: Mohan and others, ARIES, 1992).
 use Rattle.std.specs.Prelude.{◌≡◌, ◌+◌, ◌⊎◌, ℕ, List, [], ◌∷◌, ◌++◌, IsTrue, Result, Ok, Err}
-use Rattle.outside.specs.Images.{Write}
 use Rattle.outside.specs.DiskMeaning.{DiskMeaning}
 use Rattle.journal_format.specs.declared.records.Record.{Record}
 use Rattle.journal_format.specs.Image.{group_field, actor_is_first, StandsFor, IsPlaced}

@@ -1,5 +1,5 @@
 -- The counted calls of a run, one behind the other: which writes were made and synced, and where a run ended.
-use Rattle.std.specs.Prelude.{◌≡◌, ◌+◌, ℕ, List, [], ◌∷◌, ◌++◌, Result, Ok, Err}
+use Rattle.std.specs.Prelude.{◌≡◌, ℕ, List, [], ◌∷◌, ◌++◌}
 use Rattle.outside.specs.Calls.{counted}
 use Rattle.outside.specs.Images.{Write, overwritten}
 use Rattle.outside.specs.DiskMeaning.{DiskMeaning}
