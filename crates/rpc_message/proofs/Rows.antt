@@ -1,9 +1,10 @@
 -- Messages as they compute.
-use Rattle.std.proofs.Common.{◌≡◌, [], ◌∷◌, length, Some, None, Ok, Err, refl, codes}
+use Rattle.std.proofs.Common.{◌≡◌, [], ◌∷◌, length, map, Some, None, Ok, Err, refl, codes}
 use Rattle.std.specs.Fmt.{digits}
 use Rattle.serde_json.proofs.OnLiterals.{serde_json_on_literals}
 use Rattle.serde_json.specs.Data.{string}
 use Rattle.tt_base.specs.declared.edits.TextEdit.{TextEdit}
+use Rattle.rpc_message.specs.Codes.{table}
 use Rattle.rpc_message.specs.Messages.{message_in}
 use Rattle.rpc_message.specs.Methods.{method_named}
 use Rattle.rpc_message.specs.Requests.{request}
@@ -53,3 +54,8 @@ shutdown_is_read = refl
 -- a notification of an unknown method has nobody to answer
 pub notification_is_not_answered : message_in (Some (object (version ∷ (codes "method", string (codes "save")) ∷ []))) ≡ Err (fault.Refused None cause.UnknownMethod)
 notification_is_not_answered = refl
+
+-- the codes, as the protocol has them but for their sign
+pub codes_of_the_table : map (λ row. row.0) table
+    ≡ 32700 ∷ 32600 ∷ 32601 ∷ 32602 ∷ 32001 ∷ 32002 ∷ 32003 ∷ 32004 ∷ 32005 ∷ 32006 ∷ 32007 ∷ 32008 ∷ []
+codes_of_the_table = refl
