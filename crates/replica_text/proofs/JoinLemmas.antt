@@ -69,7 +69,7 @@ change_all : (v : ElemId → Bool) (xs : List Element) → AllSeen v xs → chan
 change_all v xs h = ap (λ l. change_of (compared v l)) (sym (append-nil xs)) ∙ change_same v xs [] h
 
 -- a run that comes is inserted
-change_run : (v : ElemId → Bool) (whole : List Element) (first : ElemId) (text : List ℕ) (zs : List Element) → IsRunNew first (length text) whole
+pub change_run : (v : ElemId → Bool) (whole : List Element) (first : ElemId) (text : List ℕ) (zs : List Element) → IsRunNew first (length text) whole
     → ((id : ElemId) → IsNew id whole → v id ≡ false) → change_of (compared v (run_of first text ++ zs)) ≡ inserts text (change_of (compared v zs))
 change_run v whole first [] zs n u = sym (inserts_none (change_of (compared v zs)))
 change_run v whole first (ch ∷ text) zs n u =

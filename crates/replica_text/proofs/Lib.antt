@@ -12,3 +12,9 @@ mod TextLemmas
 mod CutLemmas
 mod LeadLemmas
 mod OrderOfArrival
+mod MadeLemmas
+mod MadeWalks
+mod MadeEffects
+mod MadeMay
+mod AnyOrder
+mod EdgeLemmas

@@ -49,7 +49,7 @@ not_before id (x ∷ xs) ys d h = (
   not_before id xs ys d.1 h,
 )
 
-or_cases : {G : Type 0} (a b : Bool) → (a || b) ≡ true → (a ≡ true → G) → (b ≡ true → G) → G
+pub or_cases : {G : Type 0} (a b : Bool) → (a || b) ≡ true → (a ≡ true → G) → (b ≡ true → G) → G
 or_cases true b e left right = left refl
 or_cases false b e left right = right e
 
@@ -59,11 +59,22 @@ known_has id [] h = cc
 known_has id (e ∷ elements) h =
     or_cases (same e.id id) (is_known elements id) h (λ k. inl (same_one e.id id k)) (λ k. inr (known_has id elements k))
 
-none_left : (a b : Bool) → (a || b) ≡ false → a ≡ false
+pub or_true : (a : Bool) → (a || true) ≡ true
+or_true true = refl
+or_true false = refl
+
+pub has_known : (id : ElemId) (elements : List Element) → Has id elements → is_known elements id ≡ true
+has_known id [] h = absurd h
+has_known id (e ∷ elements) h = elim h [
+  | inl is ↦ ap (λ b. b || is_known elements id) (ap (λ (i : ElemId). same i id) is ∙ same_self id)
+  | inr k ↦ ap (λ b. same e.id id || b) (has_known id elements k) ∙ or_true (same e.id id)
+]
+
+pub none_left : (a b : Bool) → (a || b) ≡ false → a ≡ false
 none_left true b e = e
 none_left false b e = refl
 
-none_right : (a b : Bool) → (a || b) ≡ false → b ≡ false
+pub none_right : (a b : Bool) → (a || b) ≡ false → b ≡ false
 none_right true b e = cc
 none_right false b e = e
 

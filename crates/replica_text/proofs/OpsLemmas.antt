@@ -2,10 +2,10 @@
 use Rattle.std.proofs.Common.{◌≡◌, ℕ, zero, suc, ◌+◌, Bool, List, [], ◌∷◌, ◌++◌, refl, sym, ap, ◌∙◌, subst, arith}
 use Rattle.tt_base.specs.declared.ids.ElemId.{ElemId}
 use Rattle.tt_base.specs.declared.text_ops.TextOp.{TextOp}
-use Rattle.replica_text.specs.Ids.{next_id}
+use Rattle.replica_text.specs.Ids.{next_id, shifted}
 use Rattle.replica_text.specs.Tree.{Tree, without}
-use Rattle.replica_text.specs.Ops.{without_run, after_op, after_ops, known_after, all_known_after, IsRunKnown, AllMayFollow}
-use Rattle.replica_text.proofs.PlaceLemmas.{shifted, shifted_none, shifted_next}
+use Rattle.replica_text.specs.Ops.{without_run, after_op, after_ops, known_after, all_known_after, IsRunKnown, MayFollow, AllMayFollow}
+use Rattle.replica_text.proofs.PlaceLemmas.{shifted_none, shifted_next}
 
 pub after_ops-append : (xs ys : List TextOp) (tree : Tree) → after_ops (xs ++ ys) tree ≡ after_ops ys (after_ops xs tree)
 after_ops-append [] ys tree = refl
@@ -49,3 +49,14 @@ run_back answer first zero n known h =
 run_back answer first (suc m) n known h =
     let all : IsRunKnown answer first (suc (m + n)) known = subst (λ k. IsRunKnown answer first k known) (one_more m n) h in
     subst (λ (i : ElemId). IsRunKnown answer i n known) (shifted_next first m) (run_back answer (next_id first) m n known all.1)
+
+-- one operation more, and one id of a run more
+pub may_more : (ops : List TextOp) (op : TextOp) (known : ElemId → Bool) → AllMayFollow ops known → MayFollow op (all_known_after ops known) → AllMayFollow (ops ++ op ∷ []) known
+may_more [] op known h k = (k, tt)
+may_more (x ∷ ops) op known h k = (h.0, may_more ops op (known_after x known) h.1 k)
+
+pub run_known_more : (answer : Bool) (first : ElemId) (count : ℕ) (known : ElemId → Bool) → IsRunKnown answer first count known → known (shifted first count) ≡ answer
+    → IsRunKnown answer first (suc count) known
+run_known_more answer first zero known h k = (ap known (sym (shifted_none first)) ∙ k, tt)
+run_known_more answer first (suc count) known h k =
+    (h.0, run_known_more answer (next_id first) count known h.1 (ap known (shifted_next first count) ∙ k))

@@ -1,5 +1,5 @@
 -- Places of the list that is kept, against what stands before and behind them.
-use Rattle.std.proofs.Common.{◌≡◌, ℕ, zero, suc, ◌+◌, ◌-◌, ◌<◌, ◌≤◌, true, false, cond, List, [], ◌∷◌, ◌++◌, Some, length, take, drop, sym, ap, ap₂, ◌∙◌, subst, arith, inl, inr, get_or, append_assoc, length-append, length-drop}
+use Rattle.std.proofs.Common.{◌≡◌, ℕ, zero, suc, ◌+◌, ◌-◌, ◌<◌, ◌≤◌, true, false, cond, List, [], ◌∷◌, ◌++◌, Option, Some, None, is_some, MatchOption, length, take, drop, sym, ap, ap₂, ◌∙◌, subst, arith, inl, inr, get_or, append_assoc, length-append, length-drop}
 use Rattle.std.specs.Prelude.{slice_get}
 use Rattle.std.specs.List.{insert}
 use Rattle.std.proofs.lemmas.List.{take_at, drop_at, drop_all, take-append-drop, take_more, length-take-le}
@@ -7,10 +7,10 @@ use Rattle.tt_base.specs.Elements.{id_at, IsNew, AreDistinct}
 use Rattle.tt_base.specs.declared.ids.ElemId.{ElemId}
 use Rattle.tt_base.specs.declared.elements.Element.{Element}
 use Rattle.tt_base.proofs.ElementLemmas.{new-append, new_front, new_back}
-use Rattle.replica_text.specs.Ids.{less, same, next_id}
+use Rattle.replica_text.specs.Ids.{less, same, next_id, shifted, is_known}
 use Rattle.replica_text.specs.Placed.{passing, behind, Stops, run_of}
 use Rattle.replica_text.proofs.OrderLemmas.{same_self, other_same}
-use Rattle.replica_text.proofs.MemberLemmas.{Has, new_has}
+use Rattle.replica_text.proofs.MemberLemmas.{Has, new_has, has_known, new_unknown}
 use Rattle.replica_text.proofs.RunLemmas.{IsRunNew}
 
 pub id_within : (elements : List Element) (place : ℕ) (id : ElemId) → id_at elements place ≡ Some id → place < length elements
@@ -18,10 +18,16 @@ id_within [] place id h = cc
 id_within (x ∷ xs) zero id h = omega arith
 id_within (x ∷ xs) (suc place) id h = omega (arith, id_within xs place id h)
 
-id_has : (elements : List Element) (place : ℕ) (id : ElemId) → id_at elements place ≡ Some id → Has id elements
+pub id_has : (elements : List Element) (place : ℕ) (id : ElemId) → id_at elements place ≡ Some id → Has id elements
 id_has [] place id h = cc
 id_has (x ∷ xs) zero id h = inl (cc)
 id_has (x ∷ xs) (suc place) id h = inr (id_has xs place id h)
+
+-- a place is found where the id is known
+pub place_known : (place : Option ℕ) (id : ElemId) (elements : List Element) → MatchOption place (IsNew id elements) (λ p. id_at elements p ≡ Some id)
+    → is_some place ≡ is_known elements id
+place_known None id elements h = sym (new_unknown id elements h)
+place_known (Some p) id elements h = sym (has_known id elements (id_has elements p id h))
 
 -- behind a parent at a place
 pub behind_place : (parent : ElemId) (new : Element) (elements : List Element) (place : ℕ) → AreDistinct elements → id_at elements place ≡ Some parent
@@ -60,10 +66,6 @@ insert_before front last e count place c p =
     let at : length front ≡ place = omega (arith, length-append front last) in
     ap₂ (λ xs ys. xs ++ e ∷ ys) (take_at front last place at) (drop_at front last place at)
 
--- the id that stands so many behind the first of its run
-abbrev pub shifted : ElemId → ℕ → ElemId
-shifted first count = record first { index = first.index + count }
-
 with_index : (id : ElemId) (m n : ℕ) → m ≡ n → record id { index = m } ≡ record id { index = n }
 with_index id m n e = ap (λ k. record id { index = k }) e
 
@@ -72,6 +74,9 @@ shifted_none first = with_index first (first.index + 0) first.index (omega arith
 
 pub shifted_next : (first : ElemId) (count : ℕ) → shifted (next_id first) count ≡ shifted first (suc count)
 shifted_next first count = with_index first (suc first.index + count) (first.index + suc count) (omega arith)
+
+pub shifted_more : (id : ElemId) (m n : ℕ) → shifted (shifted id m) n ≡ shifted id (m + n)
+shifted_more id m n = with_index id (id.index + m + n) (id.index + (m + n)) (omega arith)
 
 pub run_push : (first : ElemId) (text : List ℕ) (ch : ℕ) → run_of first (text ++ ch ∷ []) ≡ run_of first text ++ record { id = shifted first (length text); ch = ch; alive = true } ∷ []
 run_push first [] ch = ap (λ (i : ElemId). record { id = i; ch = ch; alive = true } ∷ []) (sym (shifted_none first))

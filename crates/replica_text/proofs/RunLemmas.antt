@@ -29,7 +29,7 @@ pub parent_known : (parent : Option ElemId) (id : ElemId) (elements : List Eleme
 parent_known None id elements h = tt
 parent_known (Some p) id elements h = (known_has p elements h.0, h.1)
 
-run_new_with : (e : Element) (xs ys : List Element) (first : ElemId) (count : ℕ) → less e.id first ≡ true → IsRunNew first count (xs ++ ys) → IsRunNew first count (xs ++ e ∷ ys)
+pub run_new_with : (e : Element) (xs ys : List Element) (first : ElemId) (count : ℕ) → less e.id first ≡ true → IsRunNew first count (xs ++ ys) → IsRunNew first count (xs ++ e ∷ ys)
 run_new_with e xs ys first zero l h = tt
 run_new_with e xs ys first (suc count) l h = (
   new_with first xs ys e h.0 (less_other e.id first l),

@@ -1,5 +1,5 @@
 -- The order of ids as tests, and runs of ids that differ in their index alone.
-use Rattle.std.specs.Prelude.{ℕ, zero, suc, Bool, false, ◌||◌, List}
+use Rattle.std.specs.Prelude.{ℕ, zero, suc, ◌+◌, Bool, false, ◌||◌, List}
 use Rattle.std.specs.Ordering.{is_lt, is_eq}
 use Rattle.std.specs.List.{list_any}
 use Rattle.tt_base.specs.Ids.{id_cmp}
@@ -17,6 +17,10 @@ same a b = is_eq (id_cmp a b)
 -- the id behind this one in a run
 abbrev pub next_id : ElemId → ElemId
 next_id id = record id { index = suc id.index }
+
+-- the id that stands so many behind this one in a run
+abbrev pub shifted : ElemId → ℕ → ElemId
+shifted id count = record id { index = id.index + count }
 
 -- whether an id is among so many, from the first on
 abbrev pub is_in_run : ElemId → ℕ → ElemId → Bool

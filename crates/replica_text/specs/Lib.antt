@@ -4,4 +4,6 @@ pub mod Ops
 pub mod Effect
 pub mod Placed
 pub mod Joined
+pub mod Made
+pub mod Making
 pub mod Laws

@@ -1,12 +1,14 @@
 //! What holds of the insertion tree of a text. Each function has an empty body, and its contract is the law.
-ghost use Rattle.std.specs.Prelude.{◌≡◌, Option};
-ghost use Rattle.tt_base.specs.Elements.{IsNew};
+ghost use Rattle.std.specs.Prelude.{◌≡◌, Bool, List, [], Option, Some};
+ghost use Rattle.tt_base.specs.Elements.{IsNew, AreDistinct};
 ghost use Rattle.tt_base.specs.declared.ids.ElemId.{ElemId};
 ghost use Rattle.tt_base.specs.declared.elements.Element.{Element};
+ghost use Rattle.tt_base.specs.declared.text_ops.TextOp.{TextOp};
 ghost use Rattle.replica_text.specs.Ids.{is_known};
-ghost use Rattle.replica_text.specs.Tree.{Tree, IsTree, walk, with_element, without};
-ghost use Rattle.replica_text.specs.Ops.{MayBeParent};
-ghost use Rattle.replica_text.specs.Laws.{AreApart};
+ghost use Rattle.replica_text.specs.Tree.{Tree, Leaf, IsTree, walk, with_element, without};
+ghost use Rattle.replica_text.specs.Ops.{MayBeParent, AllMayFollow, after_ops};
+ghost use Rattle.replica_text.specs.Effect.{text_of};
+ghost use Rattle.replica_text.specs.Laws.{AreApart, IsOrderOf, HasEdge, StandsBehind, IsRearranged};
 
 /// A tree with a new element below an element that is less, or below the root, is a tree: siblings fall, and each id is
 /// greater than its parent's.
@@ -30,4 +32,26 @@ pub fn deletions_come_in_any_order()
 pub fn a_deletion_and_an_element_come_in_any_order()
     ensures { (id : ElemId) (parent : Option ElemId) (new : Element) (tree : Tree) → (id ≡ new.id → ⊥)
         → without id (with_element parent new tree) ≡ with_element parent new (without id tree) }
+{}
+
+/// Distinct elements are the full order of a tree, so there is one for each text.
+pub fn distinct_elements_are_the_order_of_a_tree()
+    ensures { (elements : List Element) → AreDistinct elements → IsOrderOf elements }
+{}
+
+/// An element stands behind its parent in the full order.
+pub fn an_element_stands_behind_its_parent()
+    ensures { (tree : Tree) (parent : ElemId) (element : Element) → HasEdge tree (Some parent) element → StandsBehind parent element (walk tree) }
+{}
+
+/// Operations may come in any order in which they are possible: they leave one tree.
+pub fn operations_come_in_any_order()
+    ensures { (known : ElemId → Bool) (one other : List TextOp) (tree : Tree) → IsRearranged one other → AllMayFollow one known → AllMayFollow other known
+        → after_ops one tree ≡ after_ops other tree }
+{}
+
+/// Two texts that hold the same operations show the same text, in whatever order these came.
+pub fn equal_operations_show_one_text()
+    ensures { (one other : List TextOp) → IsRearranged one other → AllMayFollow one (is_known []) → AllMayFollow other (is_known [])
+        → text_of (walk (after_ops one Leaf)) ≡ text_of (walk (after_ops other Leaf)) }
 {}

@@ -11,6 +11,7 @@ mod inserting;
 mod joining;
 pub mod laws;
 mod list_elements;
+mod making;
 mod places;
 mod texts;
 

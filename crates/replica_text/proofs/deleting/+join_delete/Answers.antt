@@ -2,10 +2,9 @@ use Rattle.std.proofs.Common.{◌≡◌, ℕ, ◌+◌, ◌-◌, ◌/◌, ◌<◌
 use Rattle.delta.specs.Cells.{covers, nothing, normal}
 use Rattle.tt_base.specs.declared.ids.ElemId.{ElemId}
 use Rattle.tt_base.specs.declared.elements.Element.{Element}
-use Rattle.replica_text.specs.Ids.{is_known}
+use Rattle.replica_text.specs.Ids.{is_known, shifted}
 use Rattle.replica_text.specs.Ops.{IsRunKnown, MayDelete, without_run}
 use Rattle.replica_text.specs.Joined.{Joins}
-use Rattle.replica_text.proofs.PlaceLemmas.{shifted}
 use Rattle.replica_text.proofs.OpsLemmas.{without_run-add, run_front, run_back}
 use Rattle.replica_text.proofs.JoinLemmas.{joins_both, joins_fit, joins_nothing}
 use Rattle.replica_text.proofs.CutLemmas.{if_ok}

@@ -2,7 +2,8 @@ use Rattle.std.proofs.Common.{length, subst, sym, ap, ◌∙◌, List, ◌-◌}
 use Rattle.tt_base.specs.Elements.{IsNew}
 use Rattle.tt_base.specs.declared.elements.Element.{Element}
 use Rattle.replica_text.proofs.RunLemmas.{run_unknown}
-use Rattle.replica_text.proofs.PlaceLemmas.{shifted, run_next_new, run_more}
+use Rattle.replica_text.specs.Ids.{shifted}
+use Rattle.replica_text.proofs.PlaceLemmas.{run_next_new, run_more}
 use Rattle.replica_text.proofs.inserting.insert_run.Goals as goal
 
 pub insert-requires-clause-new : goal.insert-requires-clause-new
