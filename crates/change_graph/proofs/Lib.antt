@@ -4,3 +4,6 @@ mod ReachedLemmas
 mod PlaceLemmas
 mod WalkLemmas
 mod WorkLemmas
+mod RunLemmas
+mod StartLemmas
+mod SurveyLemmas

@@ -1,5 +1,5 @@
 -- What a graph answers.
-use Rattle.std.specs.Prelude.{◌≡◌, ◌≢◌, ℕ, ◌<◌, ◌↔◌, Bool, false, IsTrue, List, [], length, Option, Some}
+use Rattle.std.specs.Prelude.{◌≡◌, ◌≢◌, ℕ, ◌<◌, false, IsTrue, List, [], length, Some}
 use Rattle.std.specs.List.Sorted.{IsStrictlySortedBy}
 use Rattle.byte_format.specs.Format.{IsEncoding}
 use Rattle.change_codec.specs.Change.{Change}
@@ -9,7 +9,8 @@ use Rattle.tt_base.specs.declared.ids.Name.{Name}
 use Rattle.change_graph.specs.History.{History, change_at, is_held, has_name, deps_at, name_of, missing}
 use Rattle.change_graph.specs.Closure.{IsInClosure}
 use Rattle.change_graph.specs.Depths.{IsDepths, by_depth}
-use Rattle.change_graph.specs.Refusals.{Cause, IsAccepted, IsFirstFault}
+use Rattle.change_graph.specs.declared.causes.Cause.{Cause}
+use Rattle.change_graph.specs.Refusals.{IsAccepted, IsFirstFault}
 
 -- ---- queries
 

@@ -6,3 +6,6 @@ pub mod Histories
 pub mod Answers
 pub mod Nodes
 pub mod Walk
+pub mod Runs
+pub mod Starts
+pub mod Survey

@@ -8,6 +8,8 @@ use Rattle.change_codec.specs.declared.ops.Ref.TheVariants.{Here, There}
 use Rattle.change_codec.specs.declared.ops.Parent.TheVariants.{Root, After}
 use Rattle.change_codec.specs.declared.ops.Op.{Op}
 use Rattle.change_codec.specs.declared.ops.Op.TheVariants.{Make, Remove, Insert, Delete}
+use Rattle.change_graph.specs.declared.causes.Cause.{Cause}
+use Rattle.change_graph.specs.declared.causes.Cause.TheVariants.{OutsideRef, NotAMake, NotAnElement, OtherObject}
 use Rattle.change_graph.specs.History.{History, is_name, ops_at}
 use Rattle.change_graph.specs.Closure.{IsClosureTest}
 
@@ -92,13 +94,8 @@ is_elsewhere object (Character other) = not (is_ref object other)
 
 -- ---- the cause for which an operation is refused, the first of the four that there is
 
--- It points at what the change does not know, it names a character as an object, an object as a character, or a character
--- of another object.
-pub data Cause : Type 0 where
-  OutsideRef : Cause
-  NotAMake : Cause
-  NotAnElement : Cause
-  OtherObject : Cause
+-- The causes: it points at what the change does not know, it names a character as an object, an object as a character, or a
+-- character of another object.
 
 -- of an operation that names an object
 abbrev pub object_fault : (Ref → List Thing) → Ref → Option Cause

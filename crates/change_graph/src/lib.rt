@@ -4,10 +4,19 @@
 //! some names lead to and others do not is found by a walk from the deepest changes.
 #![tactic(auto)]
 
+mod causes;
 mod nodes;
 mod places;
+mod runs;
+mod starts;
+mod survey;
 mod walks;
 
+pub use causes::{Cause, OpFault};
 pub use nodes::Nodes;
 pub use places::Place;
+pub use survey::first_fault;
 pub use walks::{difference, reaches};
+
+#[cfg(test)]
+mod survey_tests;
