@@ -1,3 +1,5 @@
 pub mod Steps
 pub mod Faults
 pub mod Journal
+pub mod Opening
+pub mod Held

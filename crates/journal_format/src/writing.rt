@@ -13,7 +13,7 @@ use std::alloc::{AllocError, Global};
 use tt_base::{Actor, Blob, SharedPath};
 
 /// The gate behind the last group.
-const CLOSED_GATE: u8 = 0;
+pub const CLOSED_GATE: u8 = 0;
 
 #[tactic(auto, unfolding(crate::specs::Encoding::known_field))]
 fn put_known(out: &mut Vec<u8>, known: Known) -> Result<(), AllocError>

@@ -1,16 +1,19 @@
 -- The same for a disk that may fail: why a call fails, and why it does not.
-use Rattle.std.proofs.Common.{◌≡◌, ℕ, ◌≤◌, ◌||◌, Bool, true, false, List, [], ◌∷◌, length, Ok, Err, refl, arith}
+use Rattle.std.proofs.Common.{◌≡◌, ℕ, ◌≤◌, ◌||◌, Bool, true, false, List, [], ◌∷◌, length, Option, Some, None, Ok, Err, refl, sym, subst, arith}
 use Rattle.std.specs.Prelude.{nat_lt}
 use Rattle.std.proofs.lemmas.Bool.Decides.{nat_tests}
 use Rattle.outside.specs.Calls.{counted}
 use Rattle.outside.specs.DiskCalls.{Measures, Reads, Writes, Syncs}
 use Rattle.outside.specs.Faults.{Rose}
-use Rattle.outside.specs.Images.{Write}
-use Rattle.outside.specs.Plan.{has_come}
+use Rattle.outside.specs.DiskMeaning.{MayLeave}
+use Rattle.outside.specs.Images.{Write, IsImage}
+use Rattle.outside.specs.Plan.{Stop, has_come}
+use Rattle.outside.proofs.MadeImages.{left_is_image}
 use Rattle.outside.specs.declared.disks.Fault.{Fault}
 use Rattle.outside.specs.declared.disks.DiskFault.TheVariants.{Failed}
 use Rattle.outside_mem.specs.Calls.{is_to_fail, faults_with}
-use Rattle.outside_mem.specs.MemDisk.{MemDiskView, mem_disk, fails_at, counted_fails, tried_once, mem_written, mem_synced}
+use Rattle.outside_mem.specs.DiskHistory.{DiskHistory, begun, seen_of, writes_of}
+use Rattle.outside_mem.specs.MemDisk.{MemDiskView, mem_disk, mem_disk_is_sound, fails_at, counted_fails, tried_once, mem_written, mem_synced, left_behind}
 use Rattle.outside_mem.proofs.DiskSteps.{write_made, write_failed, sync_made, sync_failed, measure_failed, read_failed}
 
 cause_by : (come : Bool) (failing : List ℕ) (tries : ℕ) → (come || is_to_fail failing tries) ≡ true → nat_lt 0 (length failing) ≡ false → come ≡ true
@@ -46,3 +49,13 @@ mem_measure_failed disk fault fails more = measure_failed disk.history disk.armi
 
 pub mem_read_failed : (disk : MemDiskView) (place : ℕ) (buf : List ℕ) (fault : Fault) → fails_at disk disk.arming.calls ≡ true → disk.faults ≤ faults_with true disk.faults → Reads (mem_disk disk) (mem_disk (tried_once disk true)) place buf (Err fault)
 mem_read_failed disk place buf fault fails more = read_failed disk.history disk.arming (nat_lt 0 (length disk.failing)) disk.faults (faults_with true disk.faults) place buf fault (cause_of disk disk.arming.calls fails) more (omega arith)
+
+-- what a restart leaves is an image
+left_image : (disk : MemDiskView) (stop : Option Stop) → IsImage disk.history.present.synced (writes_of disk.history.present) (left_behind stop disk.history.present)
+left_image disk None = (mem_disk_is_sound disk).reads_an_image tt
+left_image disk (Some stop) = left_is_image stop.mode disk.history.present.synced (writes_of disk.history.present)
+
+pub restarted_may : (old : MemDiskView) (history : DiskHistory) → history ≡ begun (left_behind old.arming.stop old.history.present)
+    → MayLeave (mem_disk old) (seen_of history.present)
+restarted_may old history is =
+    subst (λ (h : DiskHistory). MayLeave (mem_disk old) (seen_of h.present)) (sym is) (record { told = tt; image = left_image old old.arming.stop })

@@ -1,6 +1,7 @@
 ghost use Rattle.std.specs.Prelude.{◌≡◌, ◌≤◌, IfOk, OnOk, OnErr};
-ghost use Rattle.outside_mem.specs.DiskHistory.{begun};
-ghost use Rattle.outside_mem.specs.MemDisk.{unarmed, fails_at, tried_once, restarted};
+ghost use Rattle.outside.specs.DiskMeaning.{MayLeave};
+ghost use Rattle.outside_mem.specs.DiskHistory.{begun, seen_of};
+ghost use Rattle.outside_mem.specs.MemDisk.{mem_disk, unarmed, fails_at, tried_once, restarted};
 
 use crate::histories::History;
 use outside::{Disk, DiskFault, Fault, Mode, Stops, StopsDisk};
@@ -63,6 +64,8 @@ impl MemDisk {
     /// come or not, and else what a read gives. Nothing is armed then. After want of memory nothing is changed.
     pub fn restart(&mut self, alloc: Global) -> Result<(), AllocError>
         ensures ok { OnOk result (self.new ≡ restarted self.old) }
+        // What it then reads is what a crash might have left.
+        ensures left { OnOk result (MayLeave (mem_disk self.old) (seen_of self.new.history.present)) }
         ensures err { OnErr result (self.new ≡ self.old) }
     {
         let left = match self.stop {
