@@ -7,3 +7,7 @@ mod WorkLemmas
 mod RunLemmas
 mod StartLemmas
 mod SurveyLemmas
+mod InsertLemmas
+mod GrowthLemmas
+mod HeadLemmas
+mod GraphLemmas

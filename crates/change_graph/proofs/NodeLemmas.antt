@@ -1,5 +1,5 @@
 -- The map that is kept, and the two that it is seen as.
-use Rattle.std.proofs.Common.{◌≡◌, ℕ, Bool, true, false, cond, refl, sym, ap, ◌∙◌, subst, List, [], ◌∷◌, map, Option, Some, None}
+use Rattle.std.proofs.Common.{◌≡◌, ℕ, Bool, true, false, cond, refl, sym, ap, ◌∙◌, subst, List, [], ◌∷◌, map, Option, Some, None, is_some}
 use Rattle.std.specs.declared.cmp.Ordering.{Ordering}
 use Rattle.std.specs.declared.cmp.Ordering.TheVariants.{Less, Equal, Greater}
 use Rattle.std.specs.Ordering.{match_ordering}
@@ -74,3 +74,11 @@ change_found entries test o found = ap (option_map change_in) found ∙ sym (loo
 pub depth_found : (entries : List (Name × Node)) (test : Name → Bool) (o : Option Node) → o ≡ lookup test entries
     → option_map depth_of o ≡ lookup test (seen_as entries).depths
 depth_found entries test o found = ap (option_map depth_of) found ∙ sym (lookup_each depth_of test entries)
+
+mapped_some : (o : Option Node) → is_some o ≡ is_some (option_map change_in o)
+mapped_some None = refl
+mapped_some (Some node) = refl
+
+pub held_found : (entries : List (Name × Node)) (test : Name → Bool) → is_some (lookup test entries) ≡ is_some (lookup test (seen_as entries).history)
+held_found entries test =
+    mapped_some (lookup test entries) ∙ ap (λ (o : Option Change). is_some o) (sym (lookup_each change_in test entries))

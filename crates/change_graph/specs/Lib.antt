@@ -9,3 +9,5 @@ pub mod Walk
 pub mod Runs
 pub mod Starts
 pub mod Survey
+pub mod Kept
+pub mod Adding

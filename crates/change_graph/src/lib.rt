@@ -5,6 +5,8 @@
 #![tactic(auto)]
 
 mod causes;
+mod faults;
+mod graphs;
 mod nodes;
 mod places;
 mod runs;
@@ -12,11 +14,11 @@ mod starts;
 mod survey;
 mod walks;
 
-pub use causes::{Cause, OpFault};
-pub use nodes::Nodes;
-pub use places::Place;
-pub use survey::first_fault;
-pub use walks::{difference, reaches};
+pub use causes::Cause;
+pub use faults::{AddNote, GraphFault};
+pub use graphs::Graph;
 
+#[cfg(test)]
+mod graph_tests;
 #[cfg(test)]
 mod survey_tests;

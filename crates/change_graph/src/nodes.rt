@@ -3,7 +3,7 @@ ghost use Rattle.std.specs.Map.{lookup, keys_of};
 ghost use Rattle.std.specs.BTreeMap.{insert_entry};
 ghost use Rattle.std.specs.List.Sorted.{IsStrictlySortedBy};
 ghost use Rattle.tt_base.specs.Ids.{name_cmp};
-ghost use Rattle.change_graph.specs.History.{is_name, change_at};
+ghost use Rattle.change_graph.specs.History.{is_name, change_at, is_held};
 
 use change_codec::Change;
 use std::alloc::{AllocError, Global};
@@ -52,6 +52,13 @@ impl Nodes {
         ensures small { result < 2 ^ 63 }
     {
         self.by_name.len()
+    }
+
+    /// Whether there is a change with this name.
+    pub fn holds(&self, name: &Name) -> bool
+        ensures { result ≡ is_held self.now.history name.now }
+    {
+        self.by_name.contains_key(name)
     }
 
     /// The change with this name.

@@ -1,12 +1,13 @@
-ghost use Rattle.std.specs.Prelude.{◌≡◌, ◌||◌, [], ◌∷◌, OnOk};
+ghost use Rattle.std.specs.Prelude.{◌≡◌, ◌||◌, [], ◌∷◌, map, IfOk, OnOk};
+ghost use Rattle.std.specs.List.Sorted.{IsStrictlySortedBy};
 ghost use Rattle.std.specs.Ordering.{is_lt};
 ghost use Rattle.change_graph.specs.Walk.{place_cmp, has_place, is_place_of};
 ghost use Rattle.change_graph.specs.declared.places.Place as spec;
 
 use crate::nodes::Nodes;
-use std::alloc::AllocError;
+use std::alloc::{AllocError, Global};
 use std::collections::BTreeSet;
-use tt_base::Name;
+use tt_base::{List, Name};
 
 /// A change where it stands in the order of depths: behind all that it depends on.
 #[derive(Clone, Copy, Debug, PartialEq, Eq, PartialOrd, Ord)]
@@ -47,4 +48,16 @@ pub fn enter(nodes: &Nodes, names: &[Name], places: &mut BTreeSet<Place>) -> Res
         enter_one(nodes, name, places)?;
     }
     Ok(())
+}
+
+/// The names of the places, in order.
+pub fn names_of(alloc: Global, places: &BTreeSet<Place>) -> Result<List<Name>, AllocError>
+    ensures names { IfOk result (λ list. list ≡ map (λ place. place.name) places.now.keys) }
+    ensures rising { IsStrictlySortedBy place_cmp places.now.keys }
+{
+    let mut names = Vec::new(alloc);
+    for place in places.iter() {
+        names.push(place.name)?;
+    }
+    Ok(List::from_vec(names))
 }

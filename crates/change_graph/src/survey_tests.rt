@@ -1,4 +1,7 @@
-use super::*;
+use crate::causes::{Cause, OpFault};
+use crate::nodes::Nodes;
+use crate::places::Place;
+use crate::survey::first_fault;
 use change_codec::{Change, read_change};
 use std::collections::BTreeSet;
 use std::process::Abort;
