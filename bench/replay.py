@@ -1,10 +1,17 @@
 #!/usr/bin/env python3
-"""Times the built replay on scripts of growing length: seconds, peak memory, and the growth of each.
+"""Times the built replay on scripts of growing length, and on scripts of one long line.
 
-Build the program first: `rt run` in crates/teamreplay. A script has so many `type` lines, each of one
+Build the program first: `rt run` in crates/teamreplay.
+
+The first table has seconds, peak memory, and the growth of each. A script has so many `type` lines, each of one
 character in front of the text, with a `settle` each hundred lines, and one `show` at the end. With
 linear cost the seconds grow about tenfold from one size to the next; the memory grows with the text
 and with what is under way, and not with the length of the script.
+
+The second has one line of so many bytes, in nanoseconds a byte: processor time, over that of an empty script. A
+comment is passed over, so it costs what any line does. A text that is typed and bytes that are heard are read, and
+nothing more, since there is no editor or connection: such a script ends at its first line with status 2. With linear
+cost a row is level. Texts that are opened in an editor and shown are read, sent, and written; they may not be as long.
 """
 
 import os
@@ -17,6 +24,9 @@ import time
 PROGRAM = pathlib.Path(__file__).resolve().parent.parent / "crates/teamreplay/out/teamreplay"
 SIZES = (1_000, 10_000, 100_000)
 REPEATS = 3
+
+LENGTHS = (1_000_000, 4_000_000, 16_000_000)
+LINE_REPEATS = 9
 
 
 def script_of(lines):
@@ -42,9 +52,7 @@ def run(path):
         return time.perf_counter() - start, usage.ru_maxrss
 
 
-def main():
-    if not PROGRAM.exists():
-        sys.exit("build the program first: rt run in crates/teamreplay")
+def print_scripts():
     print(f"{'type lines':>12} {'seconds':>9} {'growth':>7} {'peak KiB':>9} {'growth':>7}")
     before = None
     for size in SIZES:
@@ -56,6 +64,49 @@ def main():
         growth = ("", "") if before is None else (f"{seconds / before[0]:.1f}", f"{peak / before[1]:.2f}")
         print(f"{size:>12,} {seconds:>9.4f} {growth[0]:>7} {peak:>9,} {growth[1]:>7}")
         before = (seconds, peak)
+
+
+def processor_seconds(script):
+    """The least processor time of some runs."""
+    times = []
+    with tempfile.NamedTemporaryFile("w", suffix=".script") as file:
+        file.write(script)
+        file.flush()
+        for _ in range(LINE_REPEATS):
+            with open(file.name, "rb") as opened:
+                process = subprocess.Popen([PROGRAM], stdin=opened, stdout=subprocess.DEVNULL, stderr=subprocess.DEVNULL)
+                _, _, usage = os.wait4(process.pid, 0)
+            times.append(usage.ru_utime + usage.ru_stime)
+    return min(times)
+
+
+# what stands in front of a long text, what the text is made of, and what stands behind it
+LINES = {
+    "comment": ("#", "abcdefgh", "\n"),
+    "type": ('type 0 0 0 "', "abcdefgh", '"\n'),
+    "type, escapes": ('type 0 0 0 "', "abcdef\\n", '"\n'),
+    "hear": ("hear 0 0 ", "616263ff", "\n"),
+    "editor, show": ('daemon 0\neditor 0 0 f "', "abcdefgh", '"\nsettle 0\nshow 0\n'),
+}
+
+
+def print_lines():
+    print(f"{'ns a byte':14}" + "".join(f" {length:>12,}" for length in LENGTHS))
+    start = processor_seconds("")
+    for name, (front, letters, behind) in LINES.items():
+        row = f"{name:14}"
+        for length in LENGTHS[:2] if name == "editor, show" else LENGTHS:
+            script = front + letters * (length // len(letters)) + behind
+            row += f" {(processor_seconds(script) - start) / len(script) * 1e9:12.2f}"
+        print(row)
+
+
+def main():
+    if not PROGRAM.exists():
+        sys.exit("build the program first: rt run in crates/teamreplay")
+    print_scripts()
+    print()
+    print_lines()
 
 
 if __name__ == "__main__":
