@@ -112,7 +112,7 @@ old_number view f wire e old h =
     let less : f.revision < e.own = h.numbers.0.old old refl h.ordered.1.0 in
     (λ same. absurd (omega (arith, less, same)), λ next. let never : New ≡ Old = sym next.new ∙ old in cc)
 
-shown_alike : (view : List ℕ) (f : Frame) (wire : List Frame) (e : Editor) (k : Kind) → f.mark.kind ≡ k → carries_delta k ≡ true
+pub shown_alike : (view : List ℕ) (f : Frame) (wire : List Frame) (e : Editor) (k : Kind) → f.mark.kind ≡ k → carries_delta k ≡ true
     → Good view (record e { state = Open; wire = f ∷ wire }) → (f.revision ≡ e.own) ↔ IsNext (record e { state = Open; wire = f ∷ wire }) f
 shown_alike view f wire e New is delta h = own_number view f wire e.sent e.link e is h
 shown_alike view f wire e Old is delta h = old_number view f wire e is h

@@ -11,4 +11,5 @@ pub mod Moves
 pub mod KeptLemmas
 pub mod FactLemmas
 pub mod LawLemmas
+pub mod RoomLemmas
 pub mod Rows

@@ -11,14 +11,14 @@ use Rattle.transform.proofs.MergedLemmas.{base_length-past_list}
 use Rattle.transform.proofs.ChainLemmas.{length-applied_all}
 use Rattle.editor_bridge.specs.Link.{Link, issued, editor_text, unshown}
 use Rattle.editor_bridge.specs.Faults.{revision_fault, length_fault, first_fault, edit_fault}
-use Rattle.bridge_world.specs.Lists.{Each, one_and_others, same, unless, only_if}
+use Rattle.bridge_world.specs.Lists.{one_and_others, same, unless, only_if}
 use Rattle.std.specs.Prelude.{slice_get}
 use Rattle.bridge_world.specs.Plain as P
 use Rattle.bridge_world.specs.Plain.{State, Opening, Open, Closed, is_closed, Verdict, Accepts, Refuses}
 use Rattle.bridge_world.specs.Counted as N
 use Rattle.bridge_world.specs.Counted.{Message, Opens, Edits, Closes, Sent, Held, Editor, plain_of, plain_link, plain_message, plain_sent, down_of, verdict_unless}
 use Rattle.bridge_world.specs.Counted.{verdict_by}
-use Rattle.bridge_world.specs.Tie.{Good}
+use Rattle.bridge_world.specs.Tie.{Good, AllGood}
 use Rattle.bridge_world.specs.Room as R
 use Rattle.bridge_world.specs.Room.{Room, Move, at_editor, changed, told_of, with_handled, new_plain, new_counted, plain_step, counted_step, run, empty_room, plain_room}
 use Rattle.bridge_world.proofs.ListLemmas.{each_at, each-append, at-map}
@@ -26,9 +26,6 @@ use Rattle.bridge_world.proofs.PlainSteps.{plain-typed, plain-opened, plain-clos
 use Rattle.bridge_world.proofs.GoodSteps.{good_typed, good_opened, good_closed, good_lost, good_told}
 use Rattle.bridge_world.proofs.HandledSteps.{good_handled}
 use Rattle.bridge_world.proofs.Delivery.{Both, both_delivered}
-
-abbrev pub AllGood : List ℕ → List Editor → Type 0
-AllGood view editors = Each (Good view) editors
 
 -- each editor takes the same step in both machines
 
@@ -106,7 +103,7 @@ no_fault seen p l low high fits =
     ap (λ f. first_fault f (length_fault (base_length p) (length (editor_text seen l)))) revision ∙ size
 
 -- an edit that comes to its link is for a text that the link knows, so that the link refuses nothing
-same_verdict : (k : Message) (link : Option Held) (verdict : Verdict) (view : List ℕ) (s : ℕ) (sent : List Sent) (e : Editor)
+pub same_verdict : (k : Message) (link : Option Held) (verdict : Verdict) (view : List ℕ) (s : ℕ) (sent : List Sent) (e : Editor)
     → Good view (record e { sent = record { session = s; message = k } ∷ sent; link = link }) → verdict_by verdict k link ≡ verdict
 same_verdict (Opens content) link verdict view s sent e h = refl
 same_verdict (Edits seen p) None verdict view s sent e h = refl
@@ -135,7 +132,7 @@ same_effect (Edits seen p) (Some x) (Refuses cause) view s sent e h = refl
 same_effect Closes None verdict view s sent e h = refl
 same_effect Closes (Some x) verdict view s sent e h = refl
 
-effect_fits : (k : Message) (link : Option Held) (verdict : Verdict) (view : List ℕ) (s : ℕ) (sent : List Sent) (e : Editor)
+pub effect_fits : (k : Message) (link : Option Held) (verdict : Verdict) (view : List ℕ) (s : ℕ) (sent : List Sent) (e : Editor)
     → Good view (record e { sent = record { session = s; message = k } ∷ sent; link = link }) → EffectFits (N.effect_by k link verdict) view
 effect_fits (Opens content) link verdict view s sent e h = tt
 effect_fits (Edits seen p) None verdict view s sent e h = tt

@@ -5,3 +5,5 @@ pub mod Tie
 pub mod Room
 pub mod Facts
 pub mod Laws
+pub mod Steps
+pub mod MoveFaults

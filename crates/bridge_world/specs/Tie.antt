@@ -154,3 +154,7 @@ pub record Good (view : List ℕ) (e : Editor) : Type 0 where
   pub ordered : Ordered e.state low e.session (marks e.wire)
   pub numbers : Each (FrameFits e.link (is_closed e.state) e.session e.own) e.wire
   pub tells : e.sent ≡ [] → (h : Held) → e.link ≡ Some h → new_deltas e.wire ≡ down_of h
+
+-- the tie of each editor of a text
+abbrev pub AllGood : List ℕ → List Editor → Type 0
+AllGood view editors = Each (Good view) editors

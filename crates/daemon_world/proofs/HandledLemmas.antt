@@ -6,6 +6,7 @@ use Rattle.delta.specs.Cells.{Cells, base_length, applied, inserting, changes_no
 use Rattle.transform.specs.Carried.{past_list}
 use Rattle.bridge_world.specs.Lists.{unless}
 use Rattle.bridge_world.specs.Plain as P
+use Rattle.bridge_world.specs.declared.marks.Verdict.TheVariants.{Accepts, Refuses}
 use Rattle.rpc_message.specs.declared.refusals.Refusal.TheVariants.{NotOpen, AlreadyOpen, TextTooLong}
 use Rattle.daemon_core.specs.History.{view_at, text_at}
 use Rattle.daemon_core.specs.Outcome.{LinkEvent, Stays, Opened, Outcome}
@@ -54,26 +55,26 @@ by_message s path (P.Opens content) None session sent x h = by_view (view_at s.h
       subst (Stands made_view) (untold d e) (stands_told (text_at s.history path) d e fits h) in
       record {
         stands =
-            subst (λ t. Stands t (P.handled P.Accepts t e)) (sym (text_made s.history path d))
-            (stands_handled P.Accepts made_view e there);
+            subst (λ t. Stands t (P.handled Accepts t e)) (sym (text_made s.history path d))
+            (stands_handled Accepts made_view e there);
         change = Made path d fits refl refl;
       }
   by_size fits false = record {
-    stands = stands_handled (P.Refuses (cause_of (TextTooLong (length made_view)))) (text_at s.history path) e h;
+    stands = stands_handled (Refuses (cause_of (TextTooLong (length made_view)))) (text_at s.history path) e h;
     change = Quiet refl refl;
   }
 
   by_view : (view : Option (List ℕ)) → view_at s.history path ≡ view → IsHandled s path e (opening s path content view)
-  by_view (Some view) is = record { stands = stands_handled P.Accepts (text_at s.history path) e h; change = Quiet refl refl }
+  by_view (Some view) is = record { stands = stands_handled Accepts (text_at s.history path) e h; change = Quiet refl refl }
   by_view None is =
       let empty : text_at s.history path ≡ [] = ap (λ (v : Option (List ℕ)). unwrap_or v []) is in
       by_size (sym (ap length empty)) (may_grow (length (text_at s.history path)) (length made_view))
 by_message s path (P.Opens content) (Some link) session sent x h = record {
-  stands = stands_handled (P.Refuses (cause_of AlreadyOpen)) (text_at s.history path) _ h;
+  stands = stands_handled (Refuses (cause_of AlreadyOpen)) (text_at s.history path) _ h;
   change = Quiet refl refl;
 }
 by_message s path (P.Edits p) None session sent x h = record {
-  stands = stands_handled (P.Refuses (cause_of NotOpen)) (text_at s.history path) _ h;
+  stands = stands_handled (Refuses (cause_of NotOpen)) (text_at s.history path) _ h;
   change = Quiet refl refl;
 }
 by_message s path (P.Edits p) (Some link) session sent x h =
@@ -87,22 +88,22 @@ by_message s path (P.Edits p) (Some link) session sent x h =
       by_size : (b : Bool) → IsHandled s path e (grown s path d Stays b)
       by_size true = record {
         stands =
-            subst (λ t. Stands t (P.handled P.Accepts t e)) (sym (text_made s.history path d))
-            (stands_handled P.Accepts (text_at s.history path) e h);
-        change = Made path d (effect_fits P.Accepts (text_at s.history path) e h) refl refl;
+            subst (λ t. Stands t (P.handled Accepts t e)) (sym (text_made s.history path d))
+            (stands_handled Accepts (text_at s.history path) e h);
+        change = Made path d (effect_fits Accepts (text_at s.history path) e h) refl refl;
       }
       by_size false = record {
         stands =
-            stands_handled (P.Refuses (cause_of (TextTooLong (length (applied d (text_at s.history path))))))
+            stands_handled (Refuses (cause_of (TextTooLong (length (applied d (text_at s.history path))))))
             (text_at s.history path) e h;
         change = Quiet refl refl;
       }
 by_message s path P.Closes None session sent x h = record {
-  stands = stands_handled (P.Refuses (cause_of NotOpen)) (text_at s.history path) _ h;
+  stands = stands_handled (Refuses (cause_of NotOpen)) (text_at s.history path) _ h;
   change = Quiet refl refl;
 }
 by_message s path P.Closes (Some link) session sent x h = record {
-  stands = stands_handled P.Accepts (text_at s.history path) _ h;
+  stands = stands_handled Accepts (text_at s.history path) _ h;
   change = Quiet refl refl;
 }
 
@@ -112,5 +113,5 @@ pub first_handled : (s : State) (path : List ℕ) (x : P.Editor) → Stands (tex
 first_handled s path x h = by_sent x.sent h where
   by_sent : (sent : List P.Sent) → Stands (text_at s.history path) (record x { sent = sent })
       → IsHandled s path (record x { sent = sent }) (first_step s path sent x.link)
-  by_sent [] h = record { stands = stands_handled P.Accepts (text_at s.history path) _ h; change = Quiet refl refl }
+  by_sent [] h = record { stands = stands_handled Accepts (text_at s.history path) _ h; change = Quiet refl refl }
   by_sent (m ∷ sent) h = by_message s path m.message x.link m.session sent x h

@@ -4,7 +4,11 @@ use Rattle.std.specs.Prelude.{if◌then◌else◌}
 use Rattle.std.proofs.lemmas.Bool.{eqb-true}
 use Rattle.bridge_world.specs.Counted as N
 use Rattle.bridge_world.specs.Plain as P
-use Rattle.bridge_world.specs.Plain.{Open, Opening, Closed, is_closed}
+use Rattle.bridge_world.specs.Plain.{is_closed}
+use Rattle.bridge_world.specs.declared.marks.State.{State}
+use Rattle.bridge_world.specs.declared.marks.State.TheVariants.{Open, Opening, Closed}
+use Rattle.bridge_world.specs.declared.editors.Editor.{Editor}
+use Rattle.bridge_world.specs.declared.editors.Sent.{Sent}
 use Rattle.bridge_world.specs.Tie.{Good, Ordered, place, reached}
 use Rattle.file_uri.specs.Base.{BaseView}
 use Rattle.replay_script.specs.declared.moves.Move.{Move}
@@ -52,14 +56,14 @@ pub record IsIdle (x : P.Editor) : Type 0 where
 -- an editor that waits for the answer to its open has something under way
 never_waits : (view : List ℕ) (x : P.Editor) → Stands view x → x.state ≡ Opening → x.sent ≡ [] → x.wire ≡ [] → ⊥
 never_waits view x h waits none_up none_down =
-    let e : N.Editor = h.counted in
+    let e : Editor = h.counted in
     let good : Good view e = h.good in
     let sent : e.sent ≡ [] = none_mapped N.plain_sent e.sent (ap (λ (y : P.Editor). y.sent) h.is ∙ none_up) in
     let ordered : Ordered Opening good.low e.session [] =
     subst (λ w. Ordered Opening good.low e.session w) (ap (λ (y : P.Editor). y.wire) h.is ∙ none_down)
     (subst (λ s. Ordered s good.low e.session (N.marks e.wire)) (ap (λ (y : P.Editor). y.state) h.is ∙ waits) good.ordered) in
     let session : good.low ≡ e.session =
-    subst (λ (ms : List N.Sent). (reached ms (place good.low e.link)).session ≡ e.session) sent good.session in
+    subst (λ (ms : List Sent). (reached ms (place good.low e.link)).session ≡ e.session) sent good.session in
     elim ordered [ inl before ↦ omega (arith, before.0, session) | inr answered ↦ answered.1 ]
 
 -- what the word says
@@ -71,7 +75,7 @@ idle_if_quiet x view h word =
       empty (y ∷ xs) is = let none : length (y ∷ xs) ≡ 0 = eqb-true (length (y ∷ xs)) 0 is in absurd (omega (arith, none))
 
       by : (c : Bool) → (s : Bool) → (length x.editor.sent == 0) ≡ s → (w : Bool) → (length x.editor.wire == 0) ≡ w
-          → (state : P.State) → x.editor.state ≡ state
+          → (state : State) → x.editor.state ≡ state
           → (if not c then codes "lost"
           else (if not s || not w then codes "busy"
           else (if is_closed state then codes "closed" else codes "quiet"))) ≡ codes "quiet"

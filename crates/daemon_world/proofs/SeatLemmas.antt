@@ -4,7 +4,12 @@ use Rattle.delta.specs.Cells.{Cells, base_length, applied}
 use Rattle.bridge_world.specs.Counted as N
 use Rattle.bridge_world.specs.Counted.{plain_of}
 use Rattle.bridge_world.specs.Plain as P
-use Rattle.bridge_world.specs.Plain.{Open, Closed, is_closed}
+use Rattle.bridge_world.specs.Plain.{is_closed}
+use Rattle.bridge_world.specs.declared.marks.State.{State}
+use Rattle.bridge_world.specs.declared.marks.State.TheVariants.{Opening, Open, Closed}
+use Rattle.bridge_world.specs.declared.marks.Verdict.{Verdict}
+use Rattle.bridge_world.specs.declared.editors.Editor.{Editor}
+use Rattle.bridge_world.specs.declared.editors.Frame.{Frame}
 use Rattle.bridge_world.specs.Room.{changed, new_plain, new_counted}
 use Rattle.bridge_world.specs.Tie.{Good}
 use Rattle.bridge_world.proofs.Delivery.{Both, both_delivered, quiet_has_view}
@@ -14,11 +19,11 @@ use Rattle.bridge_world.proofs.PlainSteps.{plain-typed, plain-opened, plain-clos
 
 -- the editor is what a good one with counts is without them
 pub record Stands (view : List ℕ) (x : P.Editor) : Type 0 where
-  pub counted : N.Editor
+  pub counted : Editor
   pub good : Good view counted
   pub is : plain_of counted ≡ x
 
-pub stands_both : (view : List ℕ) (x : P.Editor) (e : N.Editor) → Both view x e → Stands view x
+pub stands_both : (view : List ℕ) (x : P.Editor) (e : Editor) → Both view x e → Stands view x
 stands_both view x e both = record { counted = e; good = both.good; is = both.plain }
 
 pub stands_new : (view text : List ℕ) → Stands view (P.opened (new_plain text))
@@ -30,7 +35,7 @@ stands_new view text = record {
 
 pub stands_typed : (view : List ℕ) (x : P.Editor) (p : Cells) → base_length p ≡ length x.text → Stands view x → Stands view (P.typed p x)
 stands_typed view x p fits h =
-    let e : N.Editor = h.counted in
+    let e : Editor = h.counted in
     record {
       counted = N.typed p e;
       good = good_typed view (is_closed e.state) p e (fits ∙ ap (λ (y : P.Editor). length y.text) (sym h.is)) refl h.good;
@@ -39,15 +44,15 @@ stands_typed view x p fits h =
 
 pub stands_opened : (view : List ℕ) (x : P.Editor) → is_closed x.state ≡ true → Stands view x → Stands view (P.opened x)
 stands_opened view x closed h =
-    let e : N.Editor = h.counted in
+    let e : Editor = h.counted in
     record {
       counted = N.opened e;
       good = good_opened view e (closed_is e.state (ap (λ (y : P.Editor). is_closed y.state) h.is ∙ closed)) h.good;
       is = plain-opened e ∙ ap P.opened h.is;
     } where
-      closed_is : (state : P.State) → is_closed state ≡ true → state ≡ Closed
+      closed_is : (state : State) → is_closed state ≡ true → state ≡ Closed
       closed_is Closed e = refl
-      closed_is P.Opening e = cc
+      closed_is Opening e = cc
       closed_is Open e = cc
 
 pub stands_closed : (view : List ℕ) (x : P.Editor) → Stands view x → Stands view (P.closed x)
@@ -76,13 +81,13 @@ stands_told view d x fits h =
     (stands_both (applied d view) (P.told d (plain_of h.counted)) (N.told d h.counted) (both_told view d h.counted fits h.good))
 
 -- what an editor's first message changes is for the text
-pub effect_fits : (verdict : P.Verdict) (view : List ℕ) (x : P.Editor) → Stands view x → EffectFits (P.effect verdict x) view
+pub effect_fits : (verdict : Verdict) (view : List ℕ) (x : P.Editor) → Stands view x → EffectFits (P.effect verdict x) view
 effect_fits verdict view x h =
     let one = both_handled verdict view h.counted h.good in
     subst (λ y. EffectFits (P.effect verdict y) view) h.is (subst (λ d. EffectFits d view) one.effects one.fits)
 
 -- its first message is handled
-pub stands_handled : (verdict : P.Verdict) (view : List ℕ) (x : P.Editor) → Stands view x
+pub stands_handled : (verdict : Verdict) (view : List ℕ) (x : P.Editor) → Stands view x
     → Stands (changed (P.effect verdict x) view) (P.handled verdict (changed (P.effect verdict x) view) x)
 stands_handled verdict view x h =
     let one = both_handled verdict view h.counted h.good in
@@ -97,9 +102,9 @@ none_mapped f (y ∷ xs) is = cc
 -- a quiet editor shows the text
 pub stands_quiet : (view : List ℕ) (x : P.Editor) → Stands view x → x.state ≡ Open → x.sent ≡ [] → x.wire ≡ [] → x.text ≡ view
 stands_quiet view x h open_now none_up none_down =
-    let e : N.Editor = h.counted in
+    let e : Editor = h.counted in
     sym (ap (λ (y : P.Editor). y.text) h.is)
     ∙ quiet_has_view view e (ap (λ (y : P.Editor). y.state) h.is ∙ open_now)
     (none_mapped N.plain_sent e.sent (ap (λ (y : P.Editor). y.sent) h.is ∙ none_up))
-    (none_mapped (λ (f : N.Frame). f.mark) e.wire (ap (λ (y : P.Editor). y.wire) h.is ∙ none_down))
+    (none_mapped (λ (f : Frame). f.mark) e.wire (ap (λ (y : P.Editor). y.wire) h.is ∙ none_down))
     h.good

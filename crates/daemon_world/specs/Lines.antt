@@ -2,6 +2,11 @@
 use Rattle.std.specs.Prelude.{ℕ, ◌==◌, Bool, ◌||◌, not, List, [], ◌∷◌, ◌++◌, length, Option, Some, None, codes, decimal, flat_map, if◌then◌else◌}
 use Rattle.hex.specs.Hex.{encode_lower}
 use Rattle.bridge_world.specs.Plain as P
+use Rattle.bridge_world.specs.declared.marks.Cause.{Cause}
+use Rattle.bridge_world.specs.declared.marks.Cause.TheVariants as C
+use Rattle.bridge_world.specs.declared.marks.Kind.{Kind}
+use Rattle.bridge_world.specs.declared.marks.Kind.TheVariants.{Failed}
+use Rattle.bridge_world.specs.declared.marks.Mark.{Mark}
 use Rattle.bridge_world.specs.Plain.{is_closed}
 use Rattle.replay_script.specs.Grammar.{path_text}
 use Rattle.replay_script.specs.Texts.{quoted}
@@ -39,23 +44,23 @@ abbrev pub held_line : ℕ → ℕ → List ℕ
 held_line d held = codes "held " ++ decimal d ++ codes " " ++ decimal held ++ codes "\n"
 
 -- the code of an error without its sign, by its cause
-abbrev pub cause_code : P.Cause → ℕ
-cause_code P.NotOpen = code refusal.NotOpen
-cause_code P.AlreadyOpen = code refusal.AlreadyOpen
-cause_code P.BadRevision = code (refusal.BadRevision 0 0 0)
-cause_code (P.Other number) = number
+abbrev pub cause_code : Cause → ℕ
+cause_code C.NotOpen = code refusal.NotOpen
+cause_code C.AlreadyOpen = code refusal.AlreadyOpen
+cause_code C.BadRevision = code (refusal.BadRevision 0 0 0)
+cause_code (C.Other number) = number
 
 -- an editor is told that a request of it was refused
-abbrev pub refused_line : ℕ → P.Cause → List ℕ
+abbrev pub refused_line : ℕ → Cause → List ℕ
 refused_line e cause = codes "refused " ++ decimal e ++ codes " -" ++ decimal (cause_code cause) ++ codes "\n"
 
 -- the line of a mark that is delivered: an error's
-abbrev pub kind_line : ℕ → P.Kind → List ℕ
-kind_line e (P.Failed cause) = refused_line e cause
+abbrev pub kind_line : ℕ → Kind → List ℕ
+kind_line e (Failed cause) = refused_line e cause
 kind_line e kind = []
 
 -- the line of the first mark
-abbrev pub first_line : ℕ → List P.Mark → List ℕ
+abbrev pub first_line : ℕ → List Mark → List ℕ
 first_line e [] = []
 first_line e (m ∷ wire) = kind_line e m.kind
 

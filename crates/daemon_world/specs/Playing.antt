@@ -2,7 +2,7 @@
 use Rattle.std.specs.Prelude.{ℕ, zero, suc, ◌+◌, ◌==◌, true, ◌&&◌, not, nat_lt, nat_le, List, [], ◌∷◌, ◌++◌, length, Option, Some, None, slice_set, option_and_then}
 use Rattle.bridge_world.specs.Lists.{only_if}
 use Rattle.bridge_world.specs.Plain as P
-use Rattle.bridge_world.specs.Plain.{Closed, is_closed}
+use Rattle.bridge_world.specs.Plain.{is_closed}
 use Rattle.bridge_world.specs.Room.{new_plain}
 use Rattle.text_position.specs.Edits.{replacing}
 use Rattle.file_uri.specs.Base.{BaseView}
