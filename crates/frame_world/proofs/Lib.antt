@@ -1,0 +1,11 @@
+pub mod RequestLemmas
+pub mod HearingLemmas
+pub mod DeliveryLemmas
+pub mod SentLemmas
+pub mod LookLemmas
+pub mod BodyLemmas
+pub mod HandledLemmas
+pub mod OwnLemmas
+pub mod TellLemmas
+pub mod ChangeLemmas
+pub mod ConnectionLemmas

@@ -1,0 +1,41 @@
+-- An editor of a script as a program keeps it: the client, the bodies under way from it, and the frames under way to it.
+use Rattle.std.specs.Prelude.{◌≡◌, ℕ, ◌^◌, ◌<◌, List, [], ◌∷◌, ◌++◌, length, option_to_list}
+use Rattle.rpc_frame.specs.Written.{frame_bytes}
+use Rattle.text_position.specs.Changes.{Change}
+use Rattle.editor_client.specs.Editor as step
+use Rattle.editor_client.specs.Editor.{Editor}
+use Rattle.editor_client.specs.Hearing.{IsHeard}
+use Rattle.editor_client.specs.Requests.{open_request, close_request, body_of, edit_body}
+use Rattle.editor_client.specs.declared.notes.HeardNote.{HeardNote}
+
+pub record Seat : Type 0 where
+  pub client : Editor
+  pub up : List (List ℕ)
+  pub down : List (List ℕ)
+
+-- its connection begins, with a text that it opens; with what it sends for that
+abbrev pub opened : Seat → Seat
+opened x = record x { client = step.opened x.client; up = x.up ++ body_of (open_request x.client) x.client ∷ [] }
+
+-- it closes its text
+abbrev pub closed : Seat → Seat
+closed x = record x { client = step.closed x.client; up = x.up ++ body_of (close_request x.client) x.client ∷ [] }
+
+-- a change is typed, and sent where the text is not closed
+abbrev pub typed : Change → Seat → Seat
+typed change x =
+    record x { client = step.typed change x.client; up = x.up ++ option_to_list (edit_body change x.client) }
+
+-- its connection ends, with all that is under way
+abbrev pub lost : Seat → Seat
+lost x = record { client = step.lost x.client; up = []; down = [] }
+
+-- the body of the first frame under way comes to the client, which tells this of it
+pub record IsDelivered (before : Seat) (note : HeardNote) (after : Seat) : Type 0 where
+  pub body : List ℕ
+  pub rest : List (List ℕ)
+  pub small : length body < 2 ^ 64
+  pub first : before.down ≡ frame_bytes body ∷ rest
+  pub heard : IsHeard body before.client note after.client
+  pub up : after.up ≡ before.up
+  pub down : after.down ≡ rest
