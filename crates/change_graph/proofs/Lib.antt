@@ -11,3 +11,4 @@ mod InsertLemmas
 mod GrowthLemmas
 mod HeadLemmas
 mod GraphLemmas
+mod AnswerLemmas

@@ -7,6 +7,7 @@
 mod causes;
 mod faults;
 mod graphs;
+pub mod laws;
 mod nodes;
 mod places;
 mod runs;
