@@ -1,5 +1,5 @@
 -- What a graph keeps, and what it answers.
-use Rattle.std.proofs.Common.{◌≡◌, ◌⊎◌, inl, inr, ℕ, ◌+◌, ◌<◌, ◌≤◌, ◌==◌, max, Bool, true, false, cond, not, ◌||◌, ◌&&◌, refl, sym, ap, ◌∙◌, subst, List, [], ◌∷◌, ◌++◌, map, take, get_or, length, Option, Some, None, is_some, eqb-true, arith}
+use Rattle.std.proofs.Common.{◌≡◌, inl, inr, ℕ, ◌+◌, ◌<◌, ◌≤◌, ◌==◌, max, Bool, true, false, cond, not, ◌||◌, ◌&&◌, refl, sym, ap, ◌∙◌, subst, List, [], ◌∷◌, ◌++◌, map, take, get_or, length, Option, Some, None, is_some, eqb-true, arith}
 use Rattle.std.specs.declared.cmp.Ordering.TheVariants.{Less}
 use Rattle.std.specs.List.{AllByRecursion}
 use Rattle.std.specs.Map.{lookup, keys_of}
@@ -8,7 +8,7 @@ use Rattle.std.specs.BTreeMap.{is_at, insert_entry}
 use Rattle.std.specs.List.Sorted.{IsStrictlySortedBy}
 use Rattle.std.proofs.lemmas.List.{take_more}
 use Rattle.std.proofs.lemmas.List.Folds.{list_any_more}
-use Rattle.std.proofs.lemmas.Bool.{cases_Bool, or_cases, or_left, or_right, both_ways, false_from_ne_true, not_from_false, not-true, not-false}
+use Rattle.std.proofs.lemmas.Bool.{or_cases, or_left, or_right, both_ways, false_from_ne_true, not_from_false, not-true, not-false}
 use Rattle.tt_base.specs.Ids.{name_cmp}
 use Rattle.tt_base.specs.declared.ids.Name.{Name}
 use Rattle.byte_format.specs.Format.{IsEncoding}
@@ -19,12 +19,11 @@ use Rattle.change_codec.proofs.EncodingLaws.{change_lawful}
 use Rattle.change_graph.specs.declared.places.Place.{Place}
 use Rattle.change_graph.specs.History.{History, is_name, has_name, change_at, is_held, deps_of, deps_at, missing, name_of, with_change}
 use Rattle.change_graph.specs.Answers.{AreHeads, IsHeads, IsDifference, IsNext}
-use Rattle.change_graph.specs.Closure.{IsReached, Start, Step, IsInClosure, IsAncestor, IsClosureTest}
+use Rattle.change_graph.specs.Closure.{Start, Step, IsInClosure, IsAncestor, IsClosureTest}
 use Rattle.change_graph.specs.Depths.{greatest, by_depth}
-use Rattle.change_graph.specs.Histories.{IsClosed, IsHistory}
 use Rattle.change_graph.specs.Kept.{IsKept}
 use Rattle.change_graph.specs.Nodes.{NodesView, IsDeep, depth_in}
-use Rattle.change_graph.specs.Walk.{place_cmp, has_place, place_in, at_places, IsWalked, known_unless, is_known}
+use Rattle.change_graph.specs.Walk.{place_cmp, has_place, place_in, IsWalked, known_unless, is_known}
 use Rattle.change_graph.proofs.OrderLemmas.{name_same, name_itself, name_swap, place_same, place_itself}
 use Rattle.change_graph.proofs.ReachedLemmas.{reached_held}
 use Rattle.change_graph.proofs.InsertLemmas.{lookup_inserted, length_inserted}

@@ -1,5 +1,5 @@
 -- A history with one change more.
-use Rattle.std.proofs.Common.{◌≡◌, ◌⊎◌, inl, inr, ℕ, ◌+◌, ◌<◌, ◌≤◌, max, Bool, true, false, cond, refl, sym, ap, ◌∙◌, subst, List, [], ◌∷◌, map, length, take, Option, Some, None, is_some, arith}
+use Rattle.std.proofs.Common.{◌≡◌, inl, inr, ℕ, ◌+◌, ◌<◌, ◌≤◌, Bool, true, false, cond, refl, sym, ap, ◌∙◌, subst, List, [], ◌∷◌, map, length, take, Option, Some, is_some, arith}
 use Rattle.std.specs.Map.{lookup, keys_of}
 use Rattle.std.specs.Option.{unwrap_or}
 use Rattle.std.specs.List.{slice_get}
@@ -11,12 +11,12 @@ use Rattle.change_codec.specs.Change.{Change}
 use Rattle.change_codec.specs.declared.ops.Op.{Op}
 use Rattle.change_codec.specs.declared.ops.Ref.{Ref}
 use Rattle.change_codec.specs.declared.ops.Ref.TheVariants.{Here, There}
-use Rattle.change_graph.specs.History.{History, is_name, has_name, change_at, is_held, deps_of, deps_at, ops_of, ops_at, name_of}
-use Rattle.change_graph.specs.Closure.{IsReached, Start, Step, IsInClosure, IsAncestor, IsClosureTest}
-use Rattle.change_graph.specs.Depths.{greatest, IsDepths}
+use Rattle.change_graph.specs.History.{is_name, has_name, change_at, is_held, deps_of, deps_at, ops_of, ops_at, name_of}
+use Rattle.change_graph.specs.Closure.{IsReached, Start, Step, IsAncestor, IsClosureTest}
+use Rattle.change_graph.specs.Depths.{greatest}
 use Rattle.change_graph.specs.Histories.{IsClosed, IsHistory}
 use Rattle.change_graph.specs.Nodes.{NodesView, IsDeep, depth_in}
-use Rattle.change_graph.specs.Refusals.{Scope, ops_within, things, thing_seen, fault_of, fault_at, IsAccepted}
+use Rattle.change_graph.specs.Refusals.{ops_within, things, thing_seen, fault_of, fault_at, IsAccepted}
 use Rattle.change_graph.proofs.OrderLemmas.{name_same, name_itself}
 use Rattle.change_graph.proofs.ReachedLemmas.{reached_held, dep_depth}
 

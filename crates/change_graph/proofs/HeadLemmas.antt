@@ -1,13 +1,12 @@
 -- The heads of a history.
 use Rattle.std.proofs.Common.{◌≡◌, ◌⊎◌, inl, inr, ℕ, ◌+◌, ◌<◌, ◌≤◌, zero, suc, Bool, true, false, cond, not, ◌||◌, ◌&&◌, refl, sym, ap, ◌∙◌, subst, List, [], ◌∷◌, length, Option, Some, None, is_some, arith}
 use Rattle.std.specs.List.{list_any}
-use Rattle.std.specs.Map.{lookup}
 use Rattle.std.proofs.lemmas.Bool.{cases_Bool, or_cases, or_left, or_right, and_parts, and_from, both_ways, false_from_ne_true, not_from_false, not-true}
 use Rattle.tt_base.specs.declared.ids.Name.{Name}
 use Rattle.change_codec.specs.Change.{Change}
 use Rattle.change_graph.specs.History.{History, is_name, has_name, change_at, is_held, deps_of, deps_at}
 use Rattle.change_graph.specs.Answers.{AreHeads}
-use Rattle.change_graph.specs.Closure.{IsReached, Start, Step, IsInClosure}
+use Rattle.change_graph.specs.Closure.{Start, Step, IsInClosure}
 use Rattle.change_graph.specs.Histories.{IsClosed}
 use Rattle.change_graph.specs.Nodes.{NodesView, IsDeep, depth_in}
 use Rattle.change_graph.proofs.OrderLemmas.{name_same, name_itself}

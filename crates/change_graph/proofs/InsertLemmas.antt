@@ -1,5 +1,5 @@
 -- Entries by names, with one more.
-use Rattle.std.proofs.Common.{◌≡◌, ℕ, ◌+◌, Bool, true, false, cond, refl, sym, ap, ◌∙◌, subst, List, [], ◌∷◌, length, Option, Some, None, is_some, is_eq, arith}
+use Rattle.std.proofs.Common.{◌≡◌, ◌+◌, Bool, true, false, cond, refl, sym, ap, ◌∙◌, subst, List, [], ◌∷◌, length, Option, Some, None, is_some, is_eq, arith}
 use Rattle.std.specs.declared.cmp.Ordering.{Ordering}
 use Rattle.std.specs.declared.cmp.Ordering.TheVariants.{Less, Equal, Greater}
 use Rattle.std.specs.Ordering.{match_ordering}
@@ -10,7 +10,7 @@ use Rattle.tt_base.specs.Ids.{name_cmp}
 use Rattle.tt_base.specs.declared.ids.Name.{Name}
 use Rattle.tt_base.proofs.IdOrders.{name_tied}
 use Rattle.change_graph.specs.History.{is_name}
-use Rattle.change_graph.proofs.OrderLemmas.{name_same, name_itself, name_swap}
+use Rattle.change_graph.proofs.OrderLemmas.{name_same, name_swap}
 
 module _ {X : Type 0} (name : Name) (value : X) where
   same_cases : (b : Bool) (old : X) (o : Option X) → cond b (Some value) o ≡ cond b (Some value) (cond b (Some old) o)

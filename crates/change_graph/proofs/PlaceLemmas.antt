@@ -1,18 +1,16 @@
 -- The places of changes.
-use Rattle.std.proofs.Common.{Bor, ◌↔◌, MatchOption, IfSome, IsSome, take, get_or, ◌+◌, ◌≤◌, length, arith, take_all, ◌≡◌, ◌⊎◌, inl, inr, ℕ, ◌<◌, ◌==◌, Bool, true, false, cond, not, ◌||◌, ◌&&◌, refl, sym, ap, ◌∙◌, subst, List, [], ◌∷◌, Option, Some, None, is_some, lt-ltb, eq-eqb, eqb-true, is_lt, is_eq}
+use Rattle.std.proofs.Common.{Bor, ◌↔◌, MatchOption, IfSome, IsSome, take, get_or, ◌+◌, length, arith, ◌≡◌, ◌⊎◌, inl, inr, ℕ, ◌<◌, ◌==◌, Bool, true, false, cond, ◌||◌, ◌&&◌, refl, sym, ap, ◌∙◌, subst, List, [], ◌∷◌, Option, Some, None, is_some, lt-ltb, eq-eqb, eqb-true}
 use Rattle.std.specs.declared.cmp.Ordering.{Ordering}
 use Rattle.std.specs.declared.cmp.Ordering.TheVariants.{Less, Equal, Greater}
 use Rattle.std.specs.Ordering.{nat_cmp, ordering_then}
-use Rattle.std.specs.List.{list_any}
 use Rattle.std.specs.Map.{lookup}
 use Rattle.std.specs.BTreeMap.{is_at}
 use Rattle.std.specs.Option.{unwrap_or, option_map}
 use Rattle.std.proofs.lemmas.List.Folds.{list_any_more}
-use Rattle.std.proofs.lemmas.Bool.{cases_Bool, or_cases, or_left, or_right, and_from, and_parts, both_ways, false_from_ne_true}
-use Rattle.tt_base.specs.Ids.{name_cmp}
+use Rattle.std.proofs.lemmas.Bool.{or_cases, or_left, or_right, and_from, and_parts, both_ways, false_from_ne_true}
 use Rattle.tt_base.specs.declared.ids.Name.{Name}
 use Rattle.change_graph.specs.declared.places.Place.{Place}
-use Rattle.change_graph.specs.History.{History, is_name, has_name, is_held, deps_at, deps_of}
+use Rattle.change_graph.specs.History.{is_name, has_name, is_held, deps_at}
 use Rattle.change_graph.specs.Closure.{IsReached, Start, Step}
 use Rattle.change_graph.specs.Nodes.{NodesView, IsDeep, depth_in}
 use Rattle.change_graph.specs.Walk.{place_cmp, has_place, place_in, is_depth, is_place_of, is_below_top, IsUpTo, IsLast, at_places}

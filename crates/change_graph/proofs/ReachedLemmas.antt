@@ -1,5 +1,5 @@
 -- What is reached in a history.
-use Rattle.std.proofs.Common.{◌≡◌, ◌⊎◌, inl, inr, ℕ, ◌+◌, ◌<◌, ◌≤◌, max, Bool, true, false, ◌||◌, refl, sym, ap, ◌∙◌, subst, List, [], ◌∷◌, map, Option, Some, None, IsTrue, arith}
+use Rattle.std.proofs.Common.{◌≡◌, ◌⊎◌, inl, inr, ℕ, ◌<◌, ◌≤◌, Bool, true, false, refl, sym, ap, subst, List, [], ◌∷◌, map, Option, Some, None, arith}
 use Rattle.std.proofs.lemmas.Bool.{cases_Bool, or_cases}
 use Rattle.tt_base.specs.declared.ids.Name.{Name}
 use Rattle.change_codec.specs.Change.{Change}
@@ -7,7 +7,7 @@ use Rattle.change_graph.specs.History.{History, is_name, has_name, change_at, is
 use Rattle.change_graph.specs.Closure.{IsReached, Start, Step}
 use Rattle.change_graph.specs.Depths.{greatest, IsDepths}
 use Rattle.change_graph.specs.Histories.{IsClosed}
-use Rattle.change_graph.proofs.OrderLemmas.{name_same, name_itself}
+use Rattle.change_graph.proofs.OrderLemmas.{name_same}
 
 -- what is reached is held
 pub reached_held : {history : History} → IsClosed history → (from : Name → Bool) → {name : Name} → IsReached history from name

@@ -1,6 +1,5 @@
 -- What each step of a walk keeps.
-use Rattle.std.proofs.Common.{◌≡◌, ◌⊎◌, inl, inr, ℕ, Bool, true, false, cond, ◌||◌, refl, sym, ap, ◌∙◌, subst, List, [], ◌++◌, ◌<◌, IsTrue, is_lt}
-use Rattle.std.specs.declared.cmp.Ordering.{Ordering}
+use Rattle.std.proofs.Common.{◌≡◌, ◌⊎◌, inl, inr, Bool, true, false, cond, refl, sym, ap, ◌∙◌, subst, List, [], ◌++◌, ◌<◌, is_lt}
 use Rattle.std.specs.declared.cmp.Ordering.TheVariants.{Less}
 use Rattle.std.specs.BTreeMap.{is_at}
 use Rattle.std.proofs.lemmas.Bool.{or_cases, or_left, or_right}
@@ -12,7 +11,7 @@ use Rattle.change_graph.specs.Nodes.{NodesView, IsDeep}
 use Rattle.change_graph.specs.Walk.{place_cmp, has_place, place_in, is_place_of, is_below_top, IsUpTo, IsLast, WalkView, at_places, at_either, AreWithin, IsWalk, IsWalked, work}
 use Rattle.change_graph.proofs.OrderLemmas.{place_same, place_itself, is_less, before_itself, up_to_before}
 use Rattle.change_graph.proofs.ReachedLemmas.{reached_held, reached_again, reached_past, reached_none}
-use Rattle.change_graph.proofs.PlaceLemmas.{place_is_of, IsOf, place_of_is, reached_before, without_cases, without_from, apart_at, before_top, below_cases, below_before, below_rest, below_dep}
+use Rattle.change_graph.proofs.PlaceLemmas.{place_is_of, place_of_is, reached_before, without_cases, without_from, apart_at, before_top, below_cases, below_before, below_rest, below_dep}
 use Rattle.change_graph.proofs.WorkLemmas.{work_less, either_place, in_one, in_other}
 
 -- the names that are first put in are within their closure

@@ -1,19 +1,17 @@
 -- Each step of a walk leaves less to walk.
-use Rattle.std.proofs.Common.{◌≡◌, ◌⊎◌, inl, inr, ℕ, ◌+◌, ◌<◌, ◌≤◌, Bool, true, false, cond, not, ◌||◌, ◌&&◌, refl, sym, ap, ◌∙◌, subst, List, [], ◌∷◌, ◌++◌, Option, Some, None, is_some, IsTrue, is_lt, length, suc-le-suc, arith}
-use Rattle.std.specs.declared.cmp.Ordering.{Ordering}
+use Rattle.std.proofs.Common.{◌≡◌, ◌⊎◌, inl, inr, ◌<◌, ◌≤◌, Bool, true, false, cond, not, ◌&&◌, refl, sym, ap, ◌∙◌, subst, List, [], ◌∷◌, ◌++◌, Some, is_some, is_lt, length, suc-le-suc, arith}
 use Rattle.std.specs.declared.cmp.Ordering.TheVariants.{Less}
 use Rattle.std.specs.List.{list_any, filter}
 use Rattle.std.specs.Map.{lookup}
 use Rattle.std.specs.BTreeMap.{is_at}
-use Rattle.std.proofs.lemmas.Bool.{cases_Bool, or_cases, or_left, or_right, and_from, and_parts, both_ways, not_from_true, not_from_false, not-true, false_from_ne_true}
+use Rattle.std.proofs.lemmas.Bool.{cases_Bool, or_cases, or_left, or_right, and_from, and_parts, both_ways, not_from_false, not-true, false_from_ne_true}
 use Rattle.std.proofs.lemmas.List.Folds.{list_any-append}
 use Rattle.tt_base.specs.declared.ids.Name.{Name}
-use Rattle.change_codec.specs.Change.{Change}
 use Rattle.change_graph.specs.declared.places.Place.{Place}
 use Rattle.change_graph.specs.History.{History, is_name, is_held}
 use Rattle.change_graph.specs.Nodes.{NodesView}
 use Rattle.change_graph.specs.Walk.{place_cmp, has_place, place_in, work}
-use Rattle.change_graph.proofs.OrderLemmas.{name_same, place_same, place_itself, place_cmp_total, is_less, before_itself, before_up_to, up_to_before}
+use Rattle.change_graph.proofs.OrderLemmas.{name_same, place_same, place_itself, place_cmp_total, is_less, before_itself}
 
 -- ---- counts
 

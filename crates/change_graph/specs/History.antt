@@ -1,5 +1,5 @@
 -- Changes by their names.
-use Rattle.std.specs.Prelude.{ℕ, Bool, not, List, [], Option, Some, None, is_some, filter}
+use Rattle.std.specs.Prelude.{Bool, not, List, [], Option, Some, None, is_some, filter}
 use Rattle.std.specs.List.{list_any}
 use Rattle.std.specs.Map.{lookup}
 use Rattle.std.specs.BTreeMap.{is_at, insert_entry}

@@ -1,5 +1,5 @@
 -- A walk down a history from its deepest changes.
-use Rattle.std.specs.Prelude.{◌≡◌, ◌⊎◌, ℕ, ◌==◌, Bool, false, not, ◌&&◌, ◌||◌, IsTrue, List, ◌++◌, Option, Some, None, length, filter, if◌then◌else◌}
+use Rattle.std.specs.Prelude.{◌≡◌, ◌⊎◌, ℕ, ◌==◌, Bool, false, not, ◌&&◌, ◌||◌, IsTrue, List, Option, Some, None, length, filter, if◌then◌else◌}
 use Rattle.std.specs.declared.cmp.Ordering.{Ordering}
 use Rattle.std.specs.Ordering.{nat_cmp, ordering_then, is_lt}
 use Rattle.std.specs.List.{list_any}
@@ -8,7 +8,7 @@ use Rattle.std.specs.BTreeMap.{is_at}
 use Rattle.tt_base.specs.Ids.{name_cmp}
 use Rattle.tt_base.specs.declared.ids.Name.{Name}
 use Rattle.change_graph.specs.declared.places.Place.{Place}
-use Rattle.change_graph.specs.History.{History, is_name, has_name, deps_at}
+use Rattle.change_graph.specs.History.{is_name, has_name, deps_at}
 use Rattle.change_graph.specs.Closure.{IsReached, IsInClosure}
 use Rattle.change_graph.specs.Nodes.{NodesView, depth_in}
 

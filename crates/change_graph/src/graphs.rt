@@ -205,7 +205,7 @@ impl Graph {
     }
 
     /// Puts in a change that may be added. After want of memory all is as before.
-    fn put(&mut self, name: Name, change: Change) -> Result<(), AllocError>
+    fn put(&mut self, alloc: Global, name: Name, change: Change) -> Result<(), AllocError>
         requires next { IsNext self.old change }
         requires named { name ≡ name_of change }
         ensures ok { OnOk result (self.new ≡ with_change self.old change) }
@@ -213,7 +213,7 @@ impl Graph {
     {
         let depth = greatest_depth(&self.nodes, change.deps()) + 1;
         self.heads.insert(name)?;
-        if let Err(error) = self.nodes.insert(name, change, depth) {
+        if let Err(error) = self.nodes.insert(alloc, name, change, depth) {
             self.heads.remove(&name);
             return Err(error);
         }
@@ -235,7 +235,7 @@ impl Graph {
             return meet(alloc, held, &change, encoding);
         }
         self.judge(alloc, &change)?;
-        self.put(name, change)?;
+        self.put(alloc, name, change)?;
         Ok(AddNote::Added)
     }
 }

@@ -3,19 +3,23 @@ ghost use Rattle.std.specs.Map.{lookup, keys_of};
 ghost use Rattle.std.specs.BTreeMap.{insert_entry};
 ghost use Rattle.std.specs.List.Sorted.{IsStrictlySortedBy};
 ghost use Rattle.tt_base.specs.Ids.{name_cmp};
-ghost use Rattle.change_graph.specs.History.{is_name, change_at, is_held};
+ghost use Rattle.change_graph.specs.History.{is_name, change_at, is_held, ops_at};
+ghost use Rattle.change_graph.specs.Starts.{AreStarts};
 
+use crate::starts::{Indexed, starts_of};
 use change_codec::Change;
 use std::alloc::{AllocError, Global};
 use std::collections::BTreeMap;
 use std::marker::Model;
-use tt_base::Name;
+use tt_base::{List, Name};
 
-/// A held change, and its depth beside it.
+/// A held change, and beside it its depth and where the indices of each of its operations begin.
 #[derive(Debug, Drop)]
 struct Node {
     change: Change,
     depth: u64,
+    starts: List<u64>,
+    ghost exact: { AreStarts change.ops starts },
 }
 
 /// The held changes, by their names.
@@ -71,6 +75,19 @@ impl Nodes {
         }
     }
 
+    /// The operations of the change with this name, and none where there is no such change.
+    pub fn indexed(&self, name: &Name) -> Indexed<'_>
+        ensures { result.ops.now ≡ ops_at self.now.history name.now }
+    {
+        let Some(node) = self.by_name.get(name) else {
+            return Indexed::none();
+        };
+        Indexed {
+            ops: node.change.ops(),
+            starts: node.starts.as_slice(),
+        }
+    }
+
     /// The depth that was given with the change.
     pub fn depth(&self, name: &Name) -> Option<u64>
         ensures { result ≡ lookup (is_name name.now) self.now.depths }
@@ -82,7 +99,13 @@ impl Nodes {
     }
 
     /// Puts a change in. After want of memory all is as before.
-    pub fn insert(&mut self, name: Name, change: Change, depth: u64) -> Result<(), AllocError>
+    pub fn insert(
+        &mut self,
+        alloc: Global,
+        name: Name,
+        change: Change,
+        depth: u64,
+    ) -> Result<(), AllocError>
         ensures ok { OnOk result (self.new ≡ record {
           history = insert_entry name_cmp self.old.history name change;
           depths = insert_entry name_cmp self.old.depths name depth;
@@ -90,7 +113,13 @@ impl Nodes {
         ensures rising { OnOk result (IsStrictlySortedBy name_cmp (keys_of self.new.history)) }
         ensures err { OnErr result (self.new ≡ self.old) }
     {
-        self.by_name.insert(name, Node { change, depth })?;
+        let starts = starts_of(alloc, change.ops())?;
+        let node = Node {
+            change,
+            depth,
+            starts,
+        };
+        self.by_name.insert(name, node)?;
         Ok(())
     }
 }

@@ -1,18 +1,14 @@
 //! Which operation of a new change is refused first, and why.
 ghost use Rattle.std.specs.Prelude.{◌≡◌, ◌+◌, ◌^◌, ◌≤◌, ◌==◌, ◌&&◌, nat_le, false, [], length, take, IfOk, if◌then◌else◌};
-ghost use Rattle.change_graph.specs.History.{ops_at};
 ghost use Rattle.change_graph.specs.Refusals as spec;
-ghost use Rattle.change_graph.specs.Refusals.{things_within, fault_at};
+ghost use Rattle.change_graph.specs.Refusals.{things_within, ops_within, fault_at};
 ghost use Rattle.change_graph.specs.Walk.{is_known};
-ghost use Rattle.change_graph.specs.Runs.{so_far, told};
-ghost use Rattle.change_graph.specs.Starts.{AreStarts};
 ghost use Rattle.change_graph.specs.Survey.{IsSurveyed, scope_of, sight_at};
 
 use crate::causes::{Cause, OpFault};
 use crate::nodes::Nodes;
 use crate::places::Place;
-use crate::runs::{Scan, scan_run};
-use crate::starts::{landing_at, starts_of};
+use crate::starts::{Indexed, starts_of};
 use change_codec::{Change, Op, Parent, Ref};
 use std::alloc::{AllocError, Global};
 use std::collections::BTreeSet;
@@ -52,25 +48,21 @@ struct Survey<'a> {
     /// What of it is not in the closure of the dependencies.
     outside: &'a BTreeSet<Place>,
     /// The operations before.
-    earlier: &'a [Op],
-    /// Where these begin, as far as u64 counts.
-    starts: &'a [u64],
-    ghost exact: { AreStarts earlier.now starts.now },
+    earlier: Indexed<'a>,
 }
 
 impl<'a> Survey<'a> {
     /// The same for the operation at this place.
     fn before(&self, place: usize) -> Survey<'a>
-        requires { place ≤ length self.now.earlier.now }
+        requires { place ≤ length self.now.earlier.ops.now }
         ensures nodes { result.nodes.now ≡ self.now.nodes.now }
         ensures outside { result.outside.now.keys ≡ self.now.outside.now.keys }
-        ensures earlier { result.earlier.now ≡ take place self.now.earlier.now }
+        ensures earlier { result.earlier.ops.now ≡ take place self.now.earlier.ops.now }
     {
         Survey {
             nodes: self.nodes,
             outside: self.outside,
-            earlier: &self.earlier[..place],
-            starts: &self.starts[..place.min(self.starts.len())],
+            earlier: self.earlier.before(place),
         }
     }
 
@@ -84,40 +76,29 @@ impl<'a> Survey<'a> {
         }
     }
 
-    /// The operations of a change that is known, and none of another.
-    fn ops_of(&self, name: &Name) -> &[Op]
-        ensures { result.now ≡ (if is_known self.now.nodes.now self.now.outside.now.keys name.now
-            then ops_at self.now.nodes.now.history name.now else []) }
-    {
-        if !self.knows(name) {
-            return &[];
-        }
-        match self.nodes.change(name) {
-            Some(change) => change.ops(),
-            None => &[],
-        }
-    }
-
-    /// Follows the run of so many indices from the ref's on.
-    fn scan(&self, place: Ref, count: u64, object: Ref) -> Scan
-        ensures { so_far result ≡ told object (record { skip = spec.index_of place; left = count; objects = false; others = false })
-            (things_within (scope_of self.now.nodes.now self.now.outside.now.keys self.now.earlier.now) place) }
+    /// The operations among whose indices the ref counts: none of a change that is not known.
+    fn within(&self, place: Ref) -> Indexed<'_>
+        ensures { result.ops.now ≡ ops_within (scope_of self.now.nodes.now self.now.outside.now.keys self.now.earlier.ops.now) place }
     {
         match place {
-            Ref::Here(index) => {
-                let landing = landing_at(self.starts, index);
-                let behind = &self.earlier[landing.place..];
-                scan_run(behind, index - landing.start, count, place, object)
+            Ref::Here(_) => self.earlier,
+            Ref::There(name, _) => {
+                if self.knows(&name) {
+                    self.nodes.indexed(&name)
+                } else {
+                    Indexed::none()
+                }
             }
-            Ref::There(name, index) => scan_run(self.ops_of(&name), index, count, place, object),
         }
     }
 
     /// What is seen at so many indices from the ref's on.
     fn look(&self, place: Ref, count: u64, object: Ref) -> Sight
-        ensures { result ≡ sight_at (things_within (scope_of self.now.nodes.now self.now.outside.now.keys self.now.earlier.now)) object place count }
+        ensures { result ≡ sight_at (things_within (scope_of self.now.nodes.now self.now.outside.now.keys self.now.earlier.ops.now)) object place count }
     {
-        let scan = self.scan(place, count, object);
+        let scan = self
+            .within(place)
+            .scan(index_of(place), count, place, object);
         Sight {
             whole: is_whole(index_of(place), count, scan.left),
             objects: scan.objects,
@@ -127,7 +108,7 @@ impl<'a> Survey<'a> {
 
     /// Why an operation is refused that names an object.
     fn object_fault(&self, object: Ref) -> Option<Cause>
-        ensures { result ≡ spec.object_fault (things_within (scope_of self.now.nodes.now self.now.outside.now.keys self.now.earlier.now)) object }
+        ensures { result ≡ spec.object_fault (things_within (scope_of self.now.nodes.now self.now.outside.now.keys self.now.earlier.ops.now)) object }
     {
         let made = self.look(object, 1, object);
         if !made.whole {
@@ -142,7 +123,7 @@ impl<'a> Survey<'a> {
     /// Why one is refused that also names characters of it.
     fn characters_fault(&self, object: Ref, first: Ref, count: u64) -> Option<Cause>
         ensures { result
-            ≡ spec.characters_fault (things_within (scope_of self.now.nodes.now self.now.outside.now.keys self.now.earlier.now)) object first count }
+            ≡ spec.characters_fault (things_within (scope_of self.now.nodes.now self.now.outside.now.keys self.now.earlier.ops.now)) object first count }
     {
         let made = self.look(object, 1, object);
         let run = self.look(first, count, object);
@@ -163,7 +144,7 @@ impl<'a> Survey<'a> {
 
     /// Why the operation is refused.
     fn op_fault(&self, op: &Op) -> Option<Cause>
-        ensures { result ≡ spec.op_fault (things_within (scope_of self.now.nodes.now self.now.outside.now.keys self.now.earlier.now)) op.now }
+        ensures { result ≡ spec.op_fault (things_within (scope_of self.now.nodes.now self.now.outside.now.keys self.now.earlier.ops.now)) op.now }
     {
         match op {
             Op::Make(_) => None,
@@ -183,11 +164,11 @@ impl<'a> Survey<'a> {
 
 /// The first operation of a new change that is refused, where the changes that are held are in the closure of its
 /// dependencies but for those at the places `outside`. Memory is asked for as the operations are many.
-pub fn first_fault(
+pub fn first_fault<'a>(
     alloc: Global,
-    nodes: &Nodes,
-    outside: &BTreeSet<Place>,
-    change: &Change,
+    nodes: &'a Nodes,
+    outside: &'a BTreeSet<Place>,
+    change: &'a Change,
 ) -> Result<Option<OpFault>, AllocError>
     ensures { IfOk result (IsSurveyed (fault_at nodes.now.history (is_known nodes.now outside.now.keys) change.now.ops)) }
 {
@@ -196,8 +177,10 @@ pub fn first_fault(
     let survey = Survey {
         nodes,
         outside,
-        earlier: ops,
-        starts: starts.as_slice(),
+        earlier: Indexed {
+            ops,
+            starts: starts.as_slice(),
+        },
     };
     for (place, op) in ops.iter().enumerate() {
         if let Some(cause) = survey.before(place).op_fault(op) {

@@ -69,7 +69,7 @@ fn change_of(
 fn held(rt: &(impl Abort + AllocGlobal)) -> Result<Nodes, Fail> {
     let mut nodes = Nodes::empty(rt.alloc());
     let change = change_of(rt, FILES, &[REMOVE, HERE, ZERO])?;
-    nodes.insert(Name([7; 32]), change, 1)?;
+    nodes.insert(rt.alloc(), Name([7; 32]), change, 1)?;
     Ok(nodes)
 }
 

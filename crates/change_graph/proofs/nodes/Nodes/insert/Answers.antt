@@ -5,7 +5,7 @@ pub returns-clause-ok : goal.returns-clause-ok
 returns-clause-ok c =
     rw (← c.self.view_is)
     (inserted c.self.inside.by_name.entries c.insert.new.self.entries c.args.name
-    (record { change = c.args.change; depth = c.args.depth }) c.in_ok-insert.ensures.entries)
+    _ c.in_ok-insert.ensures.entries)
 
 pub returns-clause-rising : goal.returns-clause-rising
 returns-clause-rising c = rising c.insert.new.self.entries c.in_ok-insert.ensures.ordered

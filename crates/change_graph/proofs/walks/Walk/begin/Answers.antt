@@ -1,4 +1,4 @@
-use Rattle.std.proofs.Common.{◌||◌, List, refl, ap, ◌∙◌}
+use Rattle.std.proofs.Common.{◌||◌, List, ap, ◌∙◌}
 use Rattle.change_graph.specs.declared.places.Place.{Place}
 use Rattle.change_graph.specs.Walk.{has_place, is_place_of}
 use Rattle.change_graph.proofs.WalkLemmas.{walk_begins}
