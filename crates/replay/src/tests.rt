@@ -133,27 +133,42 @@ fn bytes_may_come_and_go_one_at_a_time(rt: HostRuntime) -> Result<(), Fail> {
     Ok(())
 }
 
+/// A sink that fails at its first write.
+fn failing_sink(alloc: Global) -> Result<MemSink, AllocError> {
+    MemSink::new(alloc, Blob::empty(alloc)?, numbers(alloc, &[1])?)
+}
+
 #[test]
-fn faults_and_words_have_their_statuses(rt: HostRuntime) -> Result<(), Fail> {
+fn a_source_that_fails_has_its_status(rt: HostRuntime) -> Result<(), Fail> {
     let alloc = rt.alloc();
-    let mut failing = MemSource::new(
-        alloc,
-        blob(alloc, MISSION.as_bytes())?,
-        numbers(alloc, &[2])?,
-    )?;
+    let bytes = blob(alloc, MISSION.as_bytes())?;
+    let mut source = MemSource::new(alloc, bytes, numbers(alloc, &[2])?)?;
     let mut sink = SureSink::new(alloc, Blob::empty(alloc)?)?;
-    let end = run(alloc, &[], &mut failing, &mut sink);
+    let end = run(alloc, &[], &mut source, &mut sink);
     assert_eq!(rt; end, ReplayEnd { status: 4, line: 6 });
     assert_eq!(rt; sink.written(), b"show 0 quiet \"aXc\"\n".as_slice());
+    Ok(())
+}
 
+#[test]
+fn a_sink_that_fails_has_its_status(rt: HostRuntime) -> Result<(), Fail> {
+    let alloc = rt.alloc();
     let mut source = SureSource::new(alloc, blob(alloc, MISSION.as_bytes())?)?;
-    let mut failing = MemSink::new(alloc, Blob::empty(alloc)?, numbers(alloc, &[1])?)?;
-    let words = vec![in alloc; String::from_str(alloc, "x")?]?;
-    let end = run(alloc, words.as_slice(), &mut source, &mut failing);
-    assert_eq!(rt; end, ReplayEnd { status: 1, line: 0 });
-    let end = run(alloc, &[], &mut source, &mut failing);
+    let mut sink = failing_sink(alloc)?;
+    let end = run(alloc, &[], &mut source, &mut sink);
     assert_eq!(rt; end, ReplayEnd { status: 5, line: 6 });
-    assert!(rt; failing.written().is_empty());
+    assert!(rt; sink.written().is_empty());
+    Ok(())
+}
+
+#[test]
+fn words_have_their_status(rt: HostRuntime) -> Result<(), Fail> {
+    let alloc = rt.alloc();
+    let mut source = SureSource::new(alloc, blob(alloc, MISSION.as_bytes())?)?;
+    let mut sink = failing_sink(alloc)?;
+    let words = vec![in alloc; String::from_str(alloc, "x")?]?;
+    let end = run(alloc, words.as_slice(), &mut source, &mut sink);
+    assert_eq!(rt; end, ReplayEnd { status: 1, line: 0 });
     Ok(())
 }
 
