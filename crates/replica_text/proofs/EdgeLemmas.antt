@@ -5,12 +5,12 @@ use Rattle.tt_base.specs.declared.elements.Element.{Element}
 use Rattle.replica_text.specs.Tree.{Tree, Leaf, Node, walk}
 use Rattle.replica_text.specs.Laws.{IsBelow, HasEdge, StandsBehind}
 
-record IsIn (x : Element) (elements : List Element) : Type 0 where
+pub record IsIn (x : Element) (elements : List Element) : Type 0 where
   pub front : List Element
   pub behind : List Element
   pub whole : elements ≡ front ++ x ∷ behind
 
-below_in : (here p : Option ElemId) (x : Element) (tree : Tree) → IsBelow here p x tree → IsIn x (walk tree)
+pub below_in : (here p : Option ElemId) (x : Element) (tree : Tree) → IsBelow here p x tree → IsIn x (walk tree)
 below_in here p x Leaf h = absurd h
 below_in here p x (Node e children siblings) h = elim h [
   | inl k ↦ record { front = []; behind = walk children ++ walk siblings; whole = ap (λ (y : Element). y ∷ (walk children ++ walk siblings)) k.1 }

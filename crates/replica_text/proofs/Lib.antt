@@ -1,4 +1,4 @@
-mod OrderLemmas
+pub mod OrderLemmas
 mod MemberLemmas
 mod SkipLemmas
 mod GrowsLemmas
@@ -18,3 +18,5 @@ mod MadeEffects
 mod MadeMay
 mod AnyOrder
 mod EdgeLemmas
+mod FixedLemmas
+mod TestLemmas

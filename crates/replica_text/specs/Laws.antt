@@ -51,3 +51,8 @@ pub record IsAmong (op : TextOp) (ops : List TextOp) (Others : List TextOp → T
 abbrev pub IsRearranged : List TextOp → List TextOp → Type 0
 IsRearranged [] ops = ops ≡ []
 IsRearranged (op ∷ others) ops = IsAmong op ops (λ rest. IsRearranged others rest)
+
+-- the two trees have the same elements below the same parents
+pub record HaveEqualEdges (one other : Tree) : Type 0 where
+  pub there : (parent : Option ElemId) (element : Element) → HasEdge one parent element → HasEdge other parent element
+  pub back : (parent : Option ElemId) (element : Element) → HasEdge other parent element → HasEdge one parent element

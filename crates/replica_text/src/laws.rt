@@ -8,7 +8,7 @@ ghost use Rattle.replica_text.specs.Ids.{is_known};
 ghost use Rattle.replica_text.specs.Tree.{Tree, Leaf, IsTree, walk, with_element, without};
 ghost use Rattle.replica_text.specs.Ops.{MayBeParent, AllMayFollow, after_ops};
 ghost use Rattle.replica_text.specs.Effect.{text_of};
-ghost use Rattle.replica_text.specs.Laws.{AreApart, IsOrderOf, HasEdge, StandsBehind, IsRearranged};
+ghost use Rattle.replica_text.specs.Laws.{AreApart, IsOrderOf, HasEdge, HaveEqualEdges, StandsBehind, IsRearranged};
 
 /// A tree with a new element below an element that is less, or below the root, is a tree: siblings fall, and each id is
 /// greater than its parent's.
@@ -37,6 +37,11 @@ pub fn a_deletion_and_an_element_come_in_any_order()
 /// Distinct elements are the full order of a tree, so there is one for each text.
 pub fn distinct_elements_are_the_order_of_a_tree()
     ensures { (elements : List Element) → AreDistinct elements → IsOrderOf elements }
+{}
+
+/// A tree is fixed by its edges: no other tree has the same elements below the same parents, so they have one full order.
+pub fn a_tree_is_fixed_by_its_edges()
+    ensures { (one other : Tree) → IsTree one → IsTree other → AreDistinct (walk one) → AreDistinct (walk other) → HaveEqualEdges one other → one ≡ other }
 {}
 
 /// An element stands behind its parent in the full order.

@@ -107,3 +107,6 @@ impl<E: Elements> ReplicaText<E> {
         Ok(List::from_vec(ops))
     }
 }
+
+#[cfg(test)]
+mod tests;
