@@ -7,19 +7,46 @@
 use Rattle.std.specs.Prelude.{ℕ, ◌+◌, ◌==◌, Bool, true, false, List, [], ◌∷◌, ◌++◌, map, Option, Some, None}
 use Rattle.std.specs.Option.{option_map}
 use Rattle.delta.specs.Cells.{Cells, applied, nothing, changes_nothing}
-use Rattle.editor_bridge.specs.Link.{new_link, editor_text, unshown, with_pushed, with_edit, carried_edit, first_deltas}
+use Rattle.editor_bridge.specs.Link.{Link, new_link, editor_text, unshown, with_pushed, with_edit, carried_edit, first_deltas}
 use Rattle.editor_bridge.specs.Faults.{edit_fault}
 use Rattle.editor_bridge.specs.declared.faults.BridgeFault.{BridgeFault}
 use Rattle.bridge_world.specs.Lists.{unless}
-pub use Rattle.bridge_world.specs.declared.editors.Message.{Message}
-pub use Rattle.bridge_world.specs.declared.editors.Message.TheVariants.{Opens, Edits, Closes}
-pub use Rattle.bridge_world.specs.declared.editors.Sent.{Sent}
-pub use Rattle.bridge_world.specs.declared.editors.Frame.{Frame}
-pub use Rattle.bridge_world.specs.declared.editors.Held.{Held}
-pub use Rattle.bridge_world.specs.declared.editors.Editor.{Editor}
 use Rattle.bridge_world.specs.Plain as P
 use Rattle.bridge_world.specs.Plain.{State, Opening, Open, Closed, is_closed, NotOpen, AlreadyOpen, BadRevision, Kind, OpenDone, Done, Failed, New, Old, aged, aged_mark, Mark}
 use Rattle.bridge_world.specs.Plain.{mark, Verdict, Accepts, Refuses}
+
+-- an edit says how many of the daemon's deltas its editor had shown
+pub data Message : Type 0 where
+  Opens : (content : List ℕ) → Message
+  Edits : (seen : ℕ) → (delta : Cells) → Message
+  Closes : Message
+
+pub record Sent : Type 0 where
+  pub session : ℕ
+  pub message : Message
+
+-- a frame on its way to the editor; an answer has neither a number nor a delta
+pub record Frame : Type 0 where
+  pub mark : Mark
+  pub revision : ℕ
+  pub delta : Cells
+
+-- the daemon's link, with its session and how many of its deltas the editor has shown
+pub record Held : Type 0 where
+  pub session : ℕ
+  pub seen : ℕ
+  pub link : Link
+
+-- an editor: own counts its deltas of this session, and shown those of the daemon that it has shown in it
+pub record Editor : Type 0 where
+  pub text : List ℕ
+  pub state : State
+  pub session : ℕ
+  pub own : ℕ
+  pub shown : ℕ
+  pub sent : List Sent
+  pub wire : List Frame
+  pub link : Option Held
 
 -- What is left without the numbers.
 

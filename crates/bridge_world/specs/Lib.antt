@@ -1,6 +1,7 @@
 pub mod Lists
 pub mod Plain
 pub mod Counted
+pub mod Kept
 pub mod Tie
 pub mod Room
 pub mod Facts

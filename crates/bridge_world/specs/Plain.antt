@@ -9,15 +9,39 @@ use Rattle.delta.specs.Cells.{Cells, applied, changes_nothing}
 use Rattle.transform.specs.Carried.{past_list, list_past}
 use Rattle.editor_bridge.specs.Link.{first_deltas}
 use Rattle.bridge_world.specs.Lists.{unless}
-pub use Rattle.bridge_world.specs.declared.marks.State.{State}
-pub use Rattle.bridge_world.specs.declared.marks.State.TheVariants.{Opening, Open, Closed}
-pub use Rattle.bridge_world.specs.declared.marks.Cause.{Cause}
-pub use Rattle.bridge_world.specs.declared.marks.Cause.TheVariants.{NotOpen, AlreadyOpen, BadRevision, Other}
-pub use Rattle.bridge_world.specs.declared.marks.Kind.{Kind}
-pub use Rattle.bridge_world.specs.declared.marks.Kind.TheVariants.{OpenDone, Done, Failed, New, Old}
-pub use Rattle.bridge_world.specs.declared.marks.Mark.{Mark}
-pub use Rattle.bridge_world.specs.declared.marks.Verdict.{Verdict}
-pub use Rattle.bridge_world.specs.declared.marks.Verdict.TheVariants.{Accepts, Refuses}
+
+-- whether an editor has asked for its text, has been answered, or has closed it
+pub data State : Type 0 where
+  Opening : State
+  Open : State
+  Closed : State
+
+-- why a message is refused: the link is missing, there is one already, the edit is not for a text that the
+-- link knows, or a reason that the link does not know, by its error code without the sign
+pub data Cause : Type 0 where
+  NotOpen : Cause
+  AlreadyOpen : Cause
+  BadRevision : Cause
+  Other : (code : ℕ) → Cause
+
+-- what is under way to an editor: the success of its open, that of another message, an error, a delta of
+-- the daemon that it is to show, or one that was overtaken and is sent again behind
+pub data Kind : Type 0 where
+  OpenDone : Kind
+  Done : Kind
+  Failed : (cause : Cause) → Kind
+  New : Kind
+  Old : Kind
+
+-- each is of a session: editors count their opens
+pub record Mark : Type 0 where
+  pub session : ℕ
+  pub kind : Kind
+
+-- what the daemon makes of a message that its link could take
+pub data Verdict : Type 0 where
+  Accepts : Verdict
+  Refuses : (cause : Cause) → Verdict
 
 -- what is under way to the daemon
 pub data Message : Type 0 where

@@ -3,8 +3,10 @@ ghost use Rattle.delta.specs.Cells.{base_length, nothing};
 ghost use Rattle.editor_bridge.specs.Link.{with_edit, carried_edit, new_link, first_deltas};
 ghost use Rattle.editor_bridge.specs.Faults.{edit_fault};
 ghost use Rattle.editor_bridge.specs.Frames.{frames};
+ghost use Rattle.bridge_world.specs.Kept.{as_kind, as_verdict};
+ghost use Rattle.bridge_world.specs.Plain.{Accepts};
 ghost use Rattle.bridge_world.specs.Room.{new_counted};
-ghost use Rattle.bridge_world.specs.Counted.{Opens, Edits, Closes, with_sent, typed, opened, closed, lost, pushed, told, answered, ended};
+ghost use Rattle.bridge_world.specs.Counted.{Opens, Edits, Closes, typed, opened, closed, lost, pushed, told, answered, ended};
 ghost use Rattle.bridge_world.specs.Counted.{aged_frame, new_frame, linked, took, handled_by, handled, effect_by, shown_if, heard, delivered};
 ghost use Rattle.bridge_world.specs.Steps.{shows, FrameApplies, FirstApplies, CanTake, CanTakeFirst, first_effect, IsForLink, link_has_room, has_room, LinkHasRoom, HeldHasRoom, HasRoom};
 
@@ -12,6 +14,7 @@ use crate::marks::{Cause, Kind, Mark, State, Verdict};
 use delta::{Delta, replace_all};
 use editor_bridge::{Bridge, BridgeFrame, Taken};
 use std::alloc::{AllocError, Global};
+use std::marker::Model;
 use std::mem::replace;
 use tt_base::{List, Text};
 
@@ -35,6 +38,15 @@ pub struct Sent {
     pub message: Message,
 }
 
+impl Model for Sent {
+    ghost use Rattle.bridge_world.specs.Counted as counted;
+    ghost use Rattle.bridge_world.specs.Kept.{as_message};
+
+    ghost Value = { counted.Sent };
+
+    ghost view = { λ m. record { session = m.session; message = as_message m.message } };
+}
+
 /// A frame on its way to an editor. An answer has neither a number nor a delta.
 #[derive(Debug, Drop)]
 pub struct Frame {
@@ -46,6 +58,15 @@ pub struct Frame {
     pub delta: Delta,
 }
 
+impl Model for Frame {
+    ghost use Rattle.bridge_world.specs.Counted as counted;
+    ghost use Rattle.bridge_world.specs.Kept.{as_mark};
+
+    ghost Value = { counted.Frame };
+
+    ghost view = { λ f. record { mark = as_mark f.mark; revision = f.revision; delta = f.delta } };
+}
+
 /// The daemon's link to an editor.
 #[derive(Debug, Drop)]
 pub struct Held {
@@ -55,6 +76,14 @@ pub struct Held {
     pub seen: u64,
     /// The link itself, with its counts.
     pub link: Bridge,
+}
+
+impl Model for Held {
+    ghost use Rattle.bridge_world.specs.Counted as counted;
+
+    ghost Value = { counted.Held };
+
+    ghost view = { λ h. record { session = h.session; seen = h.seen; link = h.link } };
 }
 
 /// An editor of the text, and what is under way between it and its link.
@@ -76,6 +105,15 @@ pub struct Editor {
     pub wire: List<Frame>,
     /// The daemon's link to it, while there is one.
     pub link: Option<Held>,
+}
+
+impl Model for Editor {
+    ghost use Rattle.bridge_world.specs.Counted as counted;
+    ghost use Rattle.bridge_world.specs.Kept.{as_state};
+
+    ghost Value = { counted.Editor };
+
+    ghost view = { λ e. record { text = e.text; state = as_state e.state; session = e.session; own = e.own; shown = e.shown; sent = e.sent; wire = e.wire; link = e.link } };
 }
 
 /// The first of the items, which is taken out of the list.
@@ -207,15 +245,6 @@ impl Editor {
         }
     }
 
-    /// Sends a message of the present session. After want of memory the editor is as it was.
-    fn send(&mut self, alloc: Global, message: Message) -> Result<(), AllocError>
-        ensures ok { OnOk result (self.new ≡ with_sent message self.old) }
-        ensures err { OnErr result (self.new ≡ self.old) }
-    {
-        let session = self.session;
-        self.sent.push(alloc, Sent { session, message })
-    }
-
     /// Types a delta, and tells the daemon unless the text is closed. After want of memory the editor is
     /// as it was.
     pub(crate) fn type_delta(&mut self, alloc: Global, p: &Delta) -> Result<(), AllocError>
@@ -228,8 +257,9 @@ impl Editor {
             return p.apply_at_once(alloc, &mut self.text);
         }
         let text = p.apply(alloc, &self.text)?;
+        let session = self.session;
         let message = Message::Edits(self.shown, p.copied(alloc)?);
-        self.send(alloc, message)?;
+        self.sent.push(alloc, Sent { session, message })?;
         self.text = text;
         self.own += 1;
         Ok(())
@@ -256,7 +286,9 @@ impl Editor {
         ensures ok { OnOk result (self.new ≡ closed self.old) }
         ensures err { OnErr result (self.new ≡ self.old) }
     {
-        self.send(alloc, Message::Closes)?;
+        let session = self.session;
+        let message = Message::Closes;
+        self.sent.push(alloc, Sent { session, message })?;
         self.state = State::Closed;
         Ok(())
     }
@@ -307,7 +339,7 @@ impl Editor {
 
     /// A message of this session has an answer.
     fn answer(&mut self, alloc: Global, session: u64, kind: Kind) -> Result<(), AllocError>
-        ensures { OnOk result (self.new ≡ answered session kind self.old) }
+        ensures { OnOk result (self.new ≡ answered session (as_kind kind) self.old) }
     {
         let frame = Frame {
             mark: Mark { session, kind },
@@ -328,7 +360,7 @@ impl Editor {
 
     /// A message of this session has an answer, and the link ends.
     fn end(&mut self, alloc: Global, session: u64, kind: Kind) -> Result<(), AllocError>
-        ensures { OnOk result (self.new ≡ ended session kind self.old) }
+        ensures { OnOk result (self.new ≡ ended session (as_kind kind) self.old) }
     {
         self.link = None;
         self.age(alloc);
@@ -366,7 +398,7 @@ impl Editor {
         verdict: Verdict,
         view: &Text,
     ) -> Result<(), AllocError>
-        ensures { OnOk result (self.new ≡ handled_by (Opens content) self.old.link verdict view.now session self.old) }
+        ensures { OnOk result (self.new ≡ handled_by (Opens content) self.old.link (as_verdict verdict) view.now session self.old) }
     {
         if self.link.is_some() {
             return self.answer(alloc, session, Kind::Failed(Cause::AlreadyOpen));
@@ -412,8 +444,8 @@ impl Editor {
     ) -> Result<Option<Delta>, AllocError>
         requires fits { CanTake (Edits seen p) self.old.link }
         requires room { HeldHasRoom self.old.link }
-        ensures new { OnOk result (self.new ≡ handled_by (Edits seen p) self.old.link verdict [] session self.old) }
-        ensures effect { IfOk result (λ d. d ≡ effect_by (Edits seen p) self.old.link verdict) }
+        ensures new { OnOk result (self.new ≡ handled_by (Edits seen p) self.old.link (as_verdict verdict) [] session self.old) }
+        ensures effect { IfOk result (λ d. d ≡ effect_by (Edits seen p) self.old.link (as_verdict verdict)) }
     {
         let Some(held) = replace(&mut self.link, None) else {
             self.answer(alloc, session, Kind::Failed(Cause::NotOpen))?;
@@ -433,7 +465,7 @@ impl Editor {
 
     /// A close of this session comes to the daemon.
     fn take_close(&mut self, alloc: Global, session: u64) -> Result<(), AllocError>
-        ensures { OnOk result (self.new ≡ handled_by Closes self.old.link Verdict.Accepts [] session self.old) }
+        ensures { OnOk result (self.new ≡ handled_by Closes self.old.link Accepts [] session self.old) }
     {
         if self.link.is_some() {
             self.end(alloc, session, Kind::Done)
@@ -452,8 +484,8 @@ impl Editor {
     ) -> Result<Option<Delta>, AllocError>
         requires fits { CanTakeFirst self.old.sent self.old.link }
         requires room { HeldHasRoom self.old.link }
-        ensures new { OnOk result (self.new ≡ handled verdict view.now self.old) }
-        ensures effect { IfOk result (λ d. d ≡ first_effect self.old.sent self.old.link verdict) }
+        ensures new { OnOk result (self.new ≡ handled (as_verdict verdict) view.now self.old) }
+        ensures effect { IfOk result (λ d. d ≡ first_effect self.old.sent self.old.link (as_verdict verdict)) }
     {
         if self.sent.is_empty() {
             return Ok(None);

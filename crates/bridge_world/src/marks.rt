@@ -13,25 +13,26 @@ pub enum State {
 
 impl State {
     ghost use Rattle.bridge_world.specs.Plain.{is_closed};
+    ghost use Rattle.bridge_world.specs.Kept.{as_state, as_kind};
     ghost use Rattle.bridge_world.specs.Steps.{is_open, admitted, state_after};
 
     /// Whether the editor has closed its text.
     pub fn is_closed(self) -> bool
-        ensures { result ≡ is_closed self }
+        ensures { result ≡ is_closed (as_state self) }
     {
         matches!(self, State::Closed)
     }
 
     /// Whether the editor shows what comes from the daemon.
     pub(crate) fn is_open(self) -> bool
-        ensures { result ≡ is_open self }
+        ensures { result ≡ is_open (as_state self) }
     {
         matches!(self, State::Open)
     }
 
     /// The state once the open of the present session was taken.
     fn admitted(self) -> State
-        ensures { result ≡ admitted self }
+        ensures { as_state result ≡ admitted (as_state self) }
     {
         match self {
             State::Opening | State::Open => State::Open,
@@ -41,7 +42,7 @@ impl State {
 
     /// The state once something has come that is not shown, of the present session or of an older one.
     pub(crate) fn after(self, kind: Kind, present: bool) -> State
-        ensures { result ≡ state_after kind self present }
+        ensures { as_state result ≡ state_after (as_kind kind) (as_state self) present }
     {
         if !present {
             return self;
@@ -85,17 +86,18 @@ pub enum Kind {
 impl Kind {
     ghost use Rattle.bridge_world.specs.Plain.{aged};
     ghost use Rattle.bridge_world.specs.Counted.{carries_delta};
+    ghost use Rattle.bridge_world.specs.Kept.{as_kind};
 
     /// Whether it is a delta of the daemon, and no answer.
     pub(crate) fn carries_delta(self) -> bool
-        ensures { result ≡ carries_delta self }
+        ensures { result ≡ carries_delta (as_kind self) }
     {
         matches!(self, Kind::New | Kind::Old)
     }
 
     /// The same once it is overtaken.
     pub(crate) fn aged(self) -> Kind
-        ensures { result ≡ aged self }
+        ensures { as_kind result ≡ aged (as_kind self) }
     {
         match self {
             Kind::New => Kind::Old,

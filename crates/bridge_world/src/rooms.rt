@@ -3,6 +3,7 @@ ghost use Rattle.delta.specs.Cells.{base_length};
 ghost use Rattle.bridge_world.specs.Lists.{Each, one_and_others, same};
 ghost use Rattle.bridge_world.specs.Counted as counted;
 ghost use Rattle.bridge_world.specs.Counted.{Editor as AnEditor};
+ghost use Rattle.bridge_world.specs.Kept.{as_verdict};
 ghost use Rattle.bridge_world.specs.Plain.{is_closed};
 ghost use Rattle.bridge_world.specs.Room.{Joins, Types, Opens, Closes, Loses, Handles, Delivers, Pushes, plain_step, counted_step, empty_room, plain_room, told_of, changed, new_counted};
 ghost use Rattle.bridge_world.specs.Steps.{IsForLink, HasRoom, HeldHasRoom, FirstApplies};
@@ -258,6 +259,8 @@ impl EditorRoom {
         ensures counted { OnOk result (counted_step (Loses n) self.old ≡ Some self.new) }
         ensures plain { OnOk result (plain_step (Loses n) (plain_room self.old) ≡ Some (plain_room self.new)) }
         ensures fault { IfErr result (λ fault. fault_at no_fault (length self.old.editors) (slice_get self.old.editors n) ≡ fault_named fault) }
+        // No memory is asked for.
+        ensures named { IfErr result (λ fault. fault_named fault ≡ Some fault) }
         ensures err { OnErr result (self.new ≡ self.old) }
     {
         if n >= self.editors.len() {
@@ -290,8 +293,8 @@ impl EditorRoom {
     /// Any other fault leaves it as it was.
     pub fn take(&mut self, alloc: Global, n: usize, verdict: Verdict) -> Result<(), MoveFault>
         requires { all_have_room self.old.editors ≡ true }
-        ensures counted { OnOk result (counted_step (Handles n verdict) self.old ≡ Some self.new) }
-        ensures plain { OnOk result (plain_step (Handles n verdict) (plain_room self.old) ≡ Some (plain_room self.new)) }
+        ensures counted { OnOk result (counted_step (Handles n (as_verdict verdict)) self.old ≡ Some self.new) }
+        ensures plain { OnOk result (plain_step (Handles n (as_verdict verdict)) (plain_room self.old) ≡ Some (plain_room self.new)) }
         ensures fault { IfErr result (λ fault. fault_at no_fault (length self.old.editors) (slice_get self.old.editors n) ≡ fault_named fault) }
         ensures err { IfErr result (λ fault. self.new ≡ left_by fault self.old) }
     {

@@ -6,7 +6,7 @@ use Rattle.delta.specs.Cells.{Cells, base_length, applied, inserting, changes_no
 use Rattle.transform.specs.Carried.{past_list}
 use Rattle.bridge_world.specs.Lists.{unless}
 use Rattle.bridge_world.specs.Plain as P
-use Rattle.bridge_world.specs.declared.marks.Verdict.TheVariants.{Accepts, Refuses}
+use Rattle.bridge_world.specs.Plain.{Accepts, Refuses}
 use Rattle.rpc_message.specs.declared.refusals.Refusal.TheVariants.{NotOpen, AlreadyOpen, TextTooLong}
 use Rattle.daemon_core.specs.History.{view_at, text_at}
 use Rattle.daemon_core.specs.Outcome.{LinkEvent, Stays, Opened, Outcome}

@@ -4,11 +4,8 @@ use Rattle.std.specs.Prelude.{if◌then◌else◌}
 use Rattle.std.proofs.lemmas.Bool.{eqb-true}
 use Rattle.bridge_world.specs.Counted as N
 use Rattle.bridge_world.specs.Plain as P
-use Rattle.bridge_world.specs.Plain.{is_closed}
-use Rattle.bridge_world.specs.declared.marks.State.{State}
-use Rattle.bridge_world.specs.declared.marks.State.TheVariants.{Open, Opening, Closed}
-use Rattle.bridge_world.specs.declared.editors.Editor.{Editor}
-use Rattle.bridge_world.specs.declared.editors.Sent.{Sent}
+use Rattle.bridge_world.specs.Plain.{is_closed, State, Open, Opening, Closed}
+use Rattle.bridge_world.specs.Counted.{Editor, Sent}
 use Rattle.bridge_world.specs.Tie.{Good, Ordered, place, reached}
 use Rattle.file_uri.specs.Base.{BaseView}
 use Rattle.replay_script.specs.declared.moves.Move.{Move}

@@ -2,14 +2,9 @@
 use Rattle.std.proofs.Common.{◌≡◌, ℕ, true, List, [], ◌∷◌, map, length, refl, sym, ap, ◌∙◌, subst}
 use Rattle.delta.specs.Cells.{Cells, base_length, applied}
 use Rattle.bridge_world.specs.Counted as N
-use Rattle.bridge_world.specs.Counted.{plain_of}
+use Rattle.bridge_world.specs.Counted.{plain_of, Editor, Frame}
 use Rattle.bridge_world.specs.Plain as P
-use Rattle.bridge_world.specs.Plain.{is_closed}
-use Rattle.bridge_world.specs.declared.marks.State.{State}
-use Rattle.bridge_world.specs.declared.marks.State.TheVariants.{Opening, Open, Closed}
-use Rattle.bridge_world.specs.declared.marks.Verdict.{Verdict}
-use Rattle.bridge_world.specs.declared.editors.Editor.{Editor}
-use Rattle.bridge_world.specs.declared.editors.Frame.{Frame}
+use Rattle.bridge_world.specs.Plain.{is_closed, State, Opening, Open, Closed, Verdict}
 use Rattle.bridge_world.specs.Room.{changed, new_plain, new_counted}
 use Rattle.bridge_world.specs.Tie.{Good}
 use Rattle.bridge_world.proofs.Delivery.{Both, both_delivered, quiet_has_view}

@@ -3,10 +3,7 @@ use Rattle.std.specs.Prelude.{ℕ, ◌==◌, ◌&&◌, List, [], ◌∷◌, flat
 use Rattle.transform.specs.Carried.{past_list}
 use Rattle.bridge_world.specs.Lists.{one_and_others}
 use Rattle.bridge_world.specs.Plain as P
-use Rattle.bridge_world.specs.declared.marks.Cause.{Cause}
-use Rattle.bridge_world.specs.declared.marks.Cause.TheVariants as C
-use Rattle.bridge_world.specs.declared.marks.Verdict.{Verdict}
-use Rattle.bridge_world.specs.declared.marks.Verdict.TheVariants.{Accepts, Refuses}
+use Rattle.bridge_world.specs.Plain.{Cause, Verdict, Accepts, Refuses}
 use Rattle.rpc_message.specs.Codes.{code}
 use Rattle.rpc_message.specs.declared.refusals.Refusal.{Refusal}
 use Rattle.rpc_message.specs.declared.refusals.Refusal.TheVariants.{NotOpen, AlreadyOpen, BadRevision}
@@ -36,10 +33,10 @@ first_step s path (m ∷ sent) link = plain_step s path m.message link
 
 -- the cause that an editor of a script is told
 abbrev pub cause_of : Refusal → Cause
-cause_of NotOpen = C.NotOpen
-cause_of AlreadyOpen = C.AlreadyOpen
-cause_of (BadRevision confirmed issued seen) = C.BadRevision
-cause_of refusal = C.Other (code refusal)
+cause_of NotOpen = P.NotOpen
+cause_of AlreadyOpen = P.AlreadyOpen
+cause_of (BadRevision confirmed issued seen) = P.BadRevision
+cause_of refusal = P.Other (code refusal)
 
 abbrev pub verdict_of : Step Outcome → Verdict
 verdict_of (Ok outcome) = Accepts

@@ -2,12 +2,7 @@
 use Rattle.std.specs.Prelude.{ℕ, ◌==◌, Bool, ◌||◌, not, List, [], ◌∷◌, ◌++◌, length, Option, Some, None, codes, decimal, flat_map, if◌then◌else◌}
 use Rattle.hex.specs.Hex.{encode_lower}
 use Rattle.bridge_world.specs.Plain as P
-use Rattle.bridge_world.specs.declared.marks.Cause.{Cause}
-use Rattle.bridge_world.specs.declared.marks.Cause.TheVariants as C
-use Rattle.bridge_world.specs.declared.marks.Kind.{Kind}
-use Rattle.bridge_world.specs.declared.marks.Kind.TheVariants.{Failed}
-use Rattle.bridge_world.specs.declared.marks.Mark.{Mark}
-use Rattle.bridge_world.specs.Plain.{is_closed}
+use Rattle.bridge_world.specs.Plain.{is_closed, Cause, Kind, Failed, Mark}
 use Rattle.replay_script.specs.Grammar.{path_text}
 use Rattle.replay_script.specs.Texts.{quoted}
 use Rattle.rpc_message.specs.Codes.{code}
@@ -45,10 +40,10 @@ held_line d held = codes "held " ++ decimal d ++ codes " " ++ decimal held ++ co
 
 -- the code of an error without its sign, by its cause
 abbrev pub cause_code : Cause → ℕ
-cause_code C.NotOpen = code refusal.NotOpen
-cause_code C.AlreadyOpen = code refusal.AlreadyOpen
-cause_code C.BadRevision = code (refusal.BadRevision 0 0 0)
-cause_code (C.Other number) = number
+cause_code P.NotOpen = code refusal.NotOpen
+cause_code P.AlreadyOpen = code refusal.AlreadyOpen
+cause_code P.BadRevision = code (refusal.BadRevision 0 0 0)
+cause_code (P.Other number) = number
 
 -- an editor is told that a request of it was refused
 abbrev pub refused_line : ℕ → Cause → List ℕ

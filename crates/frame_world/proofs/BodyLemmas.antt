@@ -2,12 +2,9 @@
 use Rattle.std.proofs.Common.{◌≡◌, ℕ, ◌+◌, ◌<◌, ◌≤◌, List, [], ◌∷◌, ◌++◌, Option, Some, None, inl, inr, refl, ap, ◌∙◌, arith}
 use Rattle.std.specs.Option.{option_map}
 use Rattle.delta.specs.Cells.{Cells}
-use Rattle.bridge_world.specs.declared.editors.Message as counted_message
-use Rattle.bridge_world.specs.declared.editors.Message.TheVariants as counted
-use Rattle.bridge_world.specs.declared.editors.Frame.{Frame}
-use Rattle.bridge_world.specs.declared.editors.Sent.{Sent}
-use Rattle.bridge_world.specs.declared.marks.Kind.{Kind}
-use Rattle.bridge_world.specs.declared.marks.Kind.TheVariants.{OpenDone, Done, Failed, New, Old}
+use Rattle.bridge_world.specs.Counted.{Frame, Sent}
+use Rattle.bridge_world.specs.Plain.{Kind, OpenDone, Done, Failed, New, Old}
+use Rattle.bridge_world.specs.Counted as N
 use Rattle.bridge_world.specs.Tie.{Stand, Place, place, edited, after, reached}
 use Rattle.rpc_message.specs.declared.messages.FromEditor.{FromEditor}
 use Rattle.rpc_message.specs.declared.messages.ToEditor.{ToEditor}
@@ -19,7 +16,7 @@ use Rattle.frame_world.specs.Tie.{Ids, IsOf, Asks, IsBody, AreBodies, Says, AreS
 abbrev pub Weaker : Place → Place → Type 0
 Weaker a b = (there : Stand) → b.stand ≡ Some there → a.stand ≡ Some there
 
-abbrev pub message : ℕ → counted_message.Message → Sent
+abbrev pub message : ℕ → N.Message → Sent
 message t k = record { session = t; message = k }
 
 weaker_edit : (p : Cells) (o q : Option Stand) → ((there : Stand) → q ≡ Some there → o ≡ Some there) → (there : Stand)
@@ -27,16 +24,16 @@ weaker_edit : (p : Cells) (o q : Option Stand) → ((there : Stand) → q ≡ So
 weaker_edit p o None weaker there is = cc
 weaker_edit p o (Some a) weaker there is = ap (option_map (edited p)) (weaker a refl) ∙ is
 
-pub weaker_after : (k : counted_message.Message) (t : ℕ) (a b : Place) → Weaker a b → Weaker (after (message t k) a) (after (message t k) b)
-weaker_after (counted.Opens content) t a b weaker there is = is
-weaker_after (counted.Edits seen p) t a b weaker there is = weaker_edit p a.stand b.stand weaker there is
-weaker_after counted.Closes t a b weaker there is = cc
+pub weaker_after : (k : N.Message) (t : ℕ) (a b : Place) → Weaker a b → Weaker (after (message t k) a) (after (message t k) b)
+weaker_after (N.Opens content) t a b weaker there is = is
+weaker_after (N.Edits seen p) t a b weaker there is = weaker_edit p a.stand b.stand weaker there is
+weaker_after N.Closes t a b weaker there is = cc
 
-weaker_asks : (k : counted_message.Message) (uri : List ℕ) (ids : Ids) (t id : ℕ) (a b : Place) (asked : FromEditor) → Weaker a b → Asks uri ids k t id a asked → Asks uri ids k t id b asked
-weaker_asks (counted.Opens content) uri ids t id a b asked weaker h = h
-weaker_asks (counted.Edits seen p) uri ids t id a b asked weaker h =
+weaker_asks : (k : N.Message) (uri : List ℕ) (ids : Ids) (t id : ℕ) (a b : Place) (asked : FromEditor) → Weaker a b → Asks uri ids k t id a asked → Asks uri ids k t id b asked
+weaker_asks (N.Opens content) uri ids t id a b asked weaker h = h
+weaker_asks (N.Edits seen p) uri ids t id a b asked weaker h =
     (h.0, (h.1.0, (h.1.1.0, (λ there is. h.1.1.1.0 there (weaker there is), h.1.1.1.1))))
-weaker_asks counted.Closes uri ids t id a b asked weaker h = h
+weaker_asks N.Closes uri ids t id a b asked weaker h = h
 
 pub bodies_weaker : (uri : List ℕ) (ids : Ids) (a b : Place) (sent : List Sent) (up : List (List ℕ)) → Weaker a b → AreBodies uri ids a sent up → AreBodies uri ids b sent up
 bodies_weaker uri ids a b [] [] weaker h = tt
@@ -72,10 +69,10 @@ pub record GoOn (ids next : Ids) : Type 0 where
   pub later : (t id : ℕ) → IsOf ids t id (ids.opening < id) → IsOf next t id (next.opening < id)
   pub any : (t id : ℕ) → IsOf ids t id (ids.opening ≤ id) → IsOf next t id (next.opening ≤ id)
 
-asks_on : (k : counted_message.Message) (uri : List ℕ) (ids next : Ids) (t id : ℕ) (a : Place) (asked : FromEditor) → GoOn ids next → Asks uri ids k t id a asked → Asks uri next k t id a asked
-asks_on (counted.Opens content) uri ids next t id a asked go h = (h.0, go.opens t id h.1)
-asks_on (counted.Edits seen p) uri ids next t id a asked go h = (h.0, (h.1.0, (h.1.1.0, (h.1.1.1.0, go.later t id h.1.1.1.1))))
-asks_on counted.Closes uri ids next t id a asked go h = (h.0, go.later t id h.1)
+asks_on : (k : N.Message) (uri : List ℕ) (ids next : Ids) (t id : ℕ) (a : Place) (asked : FromEditor) → GoOn ids next → Asks uri ids k t id a asked → Asks uri next k t id a asked
+asks_on (N.Opens content) uri ids next t id a asked go h = (h.0, go.opens t id h.1)
+asks_on (N.Edits seen p) uri ids next t id a asked go h = (h.0, (h.1.0, (h.1.1.0, (h.1.1.1.0, go.later t id h.1.1.1.1))))
+asks_on N.Closes uri ids next t id a asked go h = (h.0, go.later t id h.1)
 
 pub bodies_on : (uri : List ℕ) (ids next : Ids) (a : Place) (sent : List Sent) (up : List (List ℕ)) → GoOn ids next → AreBodies uri ids a sent up → AreBodies uri next a sent up
 bodies_on uri ids next a [] [] go h = tt

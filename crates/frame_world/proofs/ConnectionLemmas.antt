@@ -7,7 +7,7 @@ use Rattle.std.specs.Option.{option_map}
 use Rattle.std.specs.Ordering.{nat_cmp, is_eq, match_ordering}
 use Rattle.daemon_core.specs.State.{Links, State, is_number}
 use Rattle.daemon_core.proofs.MapLemmas.{number_same}
-use Rattle.bridge_world.specs.declared.editors.Editor as bridged
+use Rattle.bridge_world.specs.Counted as N
 use Rattle.frame_world.specs.Serving.{link_held, HasNone, HasOnce, Connections}
 use Rattle.frame_world.proofs.SentLemmas.{number_itself}
 
@@ -71,7 +71,7 @@ once_without k n links (c ∷ cs) apart once = by (λ later. once_without k n li
     | inr later ↦ inr (later.0, more later.1)
   ]
 
-pub connections_are_alike : (s : State) (n : ℕ) (path : List ℕ) (e : bridged.Editor) → Connections s n path e
+pub connections_are_alike : (s : State) (n : ℕ) (path : List ℕ) (e : N.Editor) → Connections s n path e
 connections_are_alike s n path e = record {
   begins = λ none unlinked. record {
     links = [];

@@ -2,18 +2,10 @@
 use Rattle.std.proofs.Common.{◌≡◌, ◌≢◌, ℕ, ◌+◌, ◌<◌, ◌==◌, Bool, true, false, List, [], ◌∷◌, length, map, Option, Some, None, inl, inr, refl, sym, ap, ◌∙◌, subst, arith, eq-eqb, ne_eqb}
 use Rattle.delta.specs.Cells.{Cells, applied}
 use Rattle.transform.specs.Carried.{IsChain}
-use Rattle.bridge_world.specs.declared.editors.Editor as bridged
-use Rattle.bridge_world.specs.declared.marks.Cause.{Cause}
-use Rattle.bridge_world.specs.declared.marks.Mark.{Mark}
+use Rattle.bridge_world.specs.Plain.{Cause, Mark, Kind, Opening, Open, Closed, OpenDone, Done, Failed, New, Old}
 use Rattle.bridge_world.specs.Counted as N
-use Rattle.bridge_world.specs.Counted.{base_of, down_of, with_one_shown}
-use Rattle.bridge_world.specs.declared.editors.Held.{Held}
-use Rattle.bridge_world.specs.declared.editors.Frame.{Frame}
-use Rattle.bridge_world.specs.declared.editors.Sent.{Sent}
+use Rattle.bridge_world.specs.Counted.{base_of, down_of, with_one_shown, Held, Frame, Sent}
 use Rattle.bridge_world.specs.Plain as P
-use Rattle.bridge_world.specs.declared.marks.Kind.{Kind}
-use Rattle.bridge_world.specs.declared.marks.State.TheVariants.{Opening, Open, Closed}
-use Rattle.bridge_world.specs.declared.marks.Kind.TheVariants.{OpenDone, Done, Failed, New, Old}
 use Rattle.bridge_world.specs.Tie.{Stand, stand_of, client_of, place, NewFits, new_deltas, Good}
 use Rattle.bridge_world.proofs.Delivery.{both_delivered, stands_there, leads_within}
 use Rattle.bridge_world.proofs.HeldLemmas.{base_of-one_shown}
@@ -50,16 +42,16 @@ abbrev seat_of : Editor → List (List ℕ) → List ToEditor → Seat
 seat_of c up ms = record { client = c; up = up; down = map frame_of ms }
 
 -- an editor of a state, to which so much is under way
-abbrev editor_in : ClientState → List Frame → bridged.Editor → bridged.Editor
+abbrev editor_in : ClientState → List Frame → N.Editor → N.Editor
 editor_in cs wire e = record e { state = state_of cs; wire = wire }
 
 -- The first frame is gone, and at most the state has changed.
 
 -- what is still to be shown is written
-abbrev StillWritten : List ℕ → List Frame → List ToEditor → bridged.Editor → Type 0
+abbrev StillWritten : List ℕ → List Frame → List ToEditor → N.Editor → Type 0
 StillWritten uri wire ms e = e.sent ≡ [] → (h : Held) → e.link ≡ Some h → AreWritten uri (base_of h) wire ms
 
-passed : (uri : List ℕ) (f : Frame) (wire : List Frame) (m : ToEditor) (ms : List ToEditor) (cs ds : ClientState) (c : Editor) (x : Seat) (e : bridged.Editor)
+passed : (uri : List ℕ) (f : Frame) (wire : List Frame) (m : ToEditor) (ms : List ToEditor) (cs ds : ClientState) (c : Editor) (x : Seat) (e : N.Editor)
     → x.client ≡ client_in cs c → IsTiedWith (m ∷ ms) uri x (editor_in cs (f ∷ wire) e) → StillWritten uri wire ms e
     → IsTiedWith ms uri (seat_of (client_in ds c) x.up ms) (editor_in ds wire e)
 passed uri f wire m ms cs ds c x e is h still =
@@ -85,39 +77,39 @@ passed uri f wire m ms cs ds c x e is h still =
 -- Answers.
 
 -- the state behind the success of the open of the session
-done_in : (cs : ClientState) (s r : ℕ) (d : Cells) (wire : List Frame) (e : bridged.Editor)
+done_in : (cs : ClientState) (s r : ℕ) (d : Cells) (wire : List Frame) (e : N.Editor)
     → N.heard OpenDone (state_of cs) true (framed OpenDone s r d) (editor_in cs wire e) ≡ editor_in (admitted cs) wire e
 done_in client_state.Opening s r d wire e = refl
 done_in client_state.Open s r d wire e = refl
 done_in client_state.Closed s r d wire e = refl
 
-done_older : (cs : ClientState) (s r : ℕ) (d : Cells) (wire : List Frame) (e : bridged.Editor)
+done_older : (cs : ClientState) (s r : ℕ) (d : Cells) (wire : List Frame) (e : N.Editor)
     → N.heard OpenDone (state_of cs) false (framed OpenDone s r d) (editor_in cs wire e) ≡ editor_in cs wire e
 done_older client_state.Opening s r d wire e = refl
 done_older client_state.Open s r d wire e = refl
 done_older client_state.Closed s r d wire e = refl
 
 -- what a message does to a client, and a frame to an editor, where the two are tied before
-abbrev Alike : List ℕ → Kind → ℕ → ℕ → Cells → List Frame → ToEditor → List ToEditor → ClientState → Editor → List (List ℕ) → bridged.Editor → Type 0
+abbrev Alike : List ℕ → Kind → ℕ → ℕ → Cells → List Frame → ToEditor → List ToEditor → ClientState → Editor → List (List ℕ) → N.Editor → Type 0
 Alike uri k s r d wire m ms cs c up e =
     IsTiedWith ms uri (seat_of (heard m (client_in cs c)) up ms)
     (N.heard k (state_of cs) (s == e.session) (framed k s r d) (editor_in cs wire e))
 
 -- a seat with one message more under way
-abbrev before : List ℕ → Kind → ℕ → ℕ → Cells → List Frame → ToEditor → List ToEditor → ClientState → Editor → List (List ℕ) → List (List ℕ) → bridged.Editor → Type 0
+abbrev before : List ℕ → Kind → ℕ → ℕ → Cells → List Frame → ToEditor → List ToEditor → ClientState → Editor → List (List ℕ) → List (List ℕ) → N.Editor → Type 0
 before uri k s r d wire m ms cs c up down e =
     IsTiedWith (m ∷ ms) uri (record { client = client_in cs c; up = up; down = down }) (editor_in cs (framed k s r d ∷ wire) e)
 
 -- with what both do
-by_both : (uri : List ℕ) (k : Kind) (s r : ℕ) (d : Cells) (wire : List Frame) (m : ToEditor) (ms : List ToEditor) (cs : ClientState) (c : Editor) (up : List (List ℕ)) (e : bridged.Editor)
-    → (b : Bool) (later : Editor) (next : bridged.Editor) → (s == e.session) ≡ b → heard m (client_in cs c) ≡ later
+by_both : (uri : List ℕ) (k : Kind) (s r : ℕ) (d : Cells) (wire : List Frame) (m : ToEditor) (ms : List ToEditor) (cs : ClientState) (c : Editor) (up : List (List ℕ)) (e : N.Editor)
+    → (b : Bool) (later : Editor) (next : N.Editor) → (s == e.session) ≡ b → heard m (client_in cs c) ≡ later
     → N.heard k (state_of cs) b (framed k s r d) (editor_in cs wire e) ≡ next → IsTiedWith ms uri (seat_of later up ms) next → Alike uri k s r d wire m ms cs c up e
 by_both uri k s r d wire m ms cs c up e b later next test client editor tied =
     subst (λ t. IsTiedWith ms uri (seat_of (heard m (client_in cs c)) up ms) (N.heard k (state_of cs) t (framed k s r d) (editor_in cs wire e))) (sym test)
     (subst (λ q. IsTiedWith ms uri (seat_of q up ms) (N.heard k (state_of cs) b (framed k s r d) (editor_in cs wire e))) (sym client)
     (subst (λ q. IsTiedWith ms uri (seat_of later up ms) q) (sym editor) tied))
 
-heard_open_done : (uri : List ℕ) (s r : ℕ) (d : Cells) (wire : List Frame) (m : ToEditor) (ms : List ToEditor) (cs : ClientState) (c : Editor) (up down : List (List ℕ)) (e : bridged.Editor)
+heard_open_done : (uri : List ℕ) (s r : ℕ) (d : Cells) (wire : List Frame) (m : ToEditor) (ms : List ToEditor) (cs : ClientState) (c : Editor) (up down : List (List ℕ)) (e : N.Editor)
     → before uri OpenDone s r d wire m ms cs c up down e → Alike uri OpenDone s r d wire m ms cs c up e
 heard_open_done uri s r d wire m ms cs c up down e h =
     let id : ℕ = h.down.0.0 in
@@ -137,7 +129,7 @@ heard_open_done uri s r d wire m ms cs c up down e h =
           (done_older cs s r d wire e) (passed uri f wire m ms cs cs c x e refl h still)
     ]
 
-heard_done : (uri : List ℕ) (s r : ℕ) (d : Cells) (wire : List Frame) (m : ToEditor) (ms : List ToEditor) (cs : ClientState) (c : Editor) (up down : List (List ℕ)) (e : bridged.Editor)
+heard_done : (uri : List ℕ) (s r : ℕ) (d : Cells) (wire : List Frame) (m : ToEditor) (ms : List ToEditor) (cs : ClientState) (c : Editor) (up down : List (List ℕ)) (e : N.Editor)
     → before uri Done s r d wire m ms cs c up down e → Alike uri Done s r d wire m ms cs c up e
 heard_done uri s r d wire m ms cs c up down e h =
     let id : ℕ = h.down.0.0 in
@@ -151,7 +143,7 @@ heard_done uri s r d wire m ms cs c up down e h =
     (passed uri (framed Done s r d) wire m ms cs cs c (record { client = client_in cs c; up = up; down = down }) e refl h (λ none q linked. (h.written none q linked).1))
 
 heard_failed : (cause : Cause) (uri : List ℕ) (s r : ℕ) (d : Cells) (wire : List Frame) (m : ToEditor) (ms : List ToEditor) (cs : ClientState) (c : Editor) (up down : List (List ℕ))
-    (e : bridged.Editor) → before uri (Failed cause) s r d wire m ms cs c up down e → Alike uri (Failed cause) s r d wire m ms cs c up e
+    (e : N.Editor) → before uri (Failed cause) s r d wire m ms cs c up down e → Alike uri (Failed cause) s r d wire m ms cs c up e
 heard_failed cause uri s r d wire m ms cs c up down e h =
     let id : ℕ = h.down.0.0 in
     let tells : Tells cause id m = h.down.0.1.0 in
@@ -177,14 +169,14 @@ own_rest : (d : Cells) (l q : List Cells) → d ∷ l ≡ q → l ≡ q → ⊥
 own_rest d l q front rest = omega (arith, ap length front, ap length rest)
 
 -- where the tie is kept and no link has moved, no delta to be shown was passed over
-never_new : (view : List ℕ) (s r : ℕ) (d : Cells) (wire : List Frame) (ms : List ToEditor) (uri : List ℕ) (cs : ClientState) (e : bridged.Editor)
+never_new : (view : List ℕ) (s r : ℕ) (d : Cells) (wire : List Frame) (ms : List ToEditor) (uri : List ℕ) (cs : ClientState) (e : N.Editor)
     → Good view (editor_in cs (framed New s r d ∷ wire) e) → Good view (editor_in cs wire e) → StillWritten uri wire ms e
 never_new view s r d wire ms uri cs e good after none q linked =
     absurd (own_rest d (new_deltas wire) (down_of q) (good.tells none q linked) (after.tells none q linked))
 
 -- an edit that both pass over
 edit_passed : (k : Kind) (view uri : List ℕ) (s r : ℕ) (d : Cells) (wire : List Frame) (m : ToEditor) (ms : List ToEditor) (cs : ClientState) (c : Editor)
-    (up down : List (List ℕ)) (e : bridged.Editor)
+    (up down : List (List ℕ)) (e : N.Editor)
     → before uri k s r d wire m ms cs c up down e → StillWritten uri wire ms e → heard m (client_in cs c) ≡ client_in cs c
     → N.heard k (state_of cs) (s == e.session) (framed k s r d) (editor_in cs wire e) ≡ editor_in cs wire e → Alike uri k s r d wire m ms cs c up e
 edit_passed k view uri s r d wire m ms cs c up down e h still client editor =
@@ -192,7 +184,7 @@ edit_passed k view uri s r d wire m ms cs c up down e h still client editor =
     (passed uri (framed k s r d) wire m ms cs cs c (record { client = client_in cs c; up = up; down = down }) e refl h still)
 
 -- what was overtaken
-heard_old : (view uri : List ℕ) (s r : ℕ) (d : Cells) (wire : List Frame) (m : ToEditor) (ms : List ToEditor) (cs : ClientState) (c : Editor) (up down : List (List ℕ)) (e : bridged.Editor)
+heard_old : (view uri : List ℕ) (s r : ℕ) (d : Cells) (wire : List Frame) (m : ToEditor) (ms : List ToEditor) (cs : ClientState) (c : Editor) (up down : List (List ℕ)) (e : N.Editor)
     → Good view (editor_in cs (framed Old s r d ∷ wire) e) → before uri Old s r d wire m ms cs c up down e → Alike uri Old s r d wire m ms cs c up e
 heard_old view uri s r d wire m ms client_state.Opening c up down e good h =
     edit_passed Old view uri s r d wire m ms client_state.Opening c up down e h (λ none q linked. (h.written none q linked).1)
@@ -213,11 +205,11 @@ no_bodies uri ids l k low [] h = tt
 no_bodies uri ids l k low (body ∷ up) h = absurd h
 
 -- a delta of an open editor with nothing under way up
-new_shown : (view uri : List ℕ) (s r : ℕ) (d : Cells) (wire : List Frame) (m : ToEditor) (ms : List ToEditor) (c : Editor) (up down : List (List ℕ)) (q : Held) (e : bridged.Editor)
-    → let o : bridged.Editor = record e { sent = []; link = Some q } in Good view (editor_in client_state.Open (framed New s r d ∷ wire) o)
+new_shown : (view uri : List ℕ) (s r : ℕ) (d : Cells) (wire : List Frame) (m : ToEditor) (ms : List ToEditor) (c : Editor) (up down : List (List ℕ)) (q : Held) (e : N.Editor)
+    → let o : N.Editor = record e { sent = []; link = Some q } in Good view (editor_in client_state.Open (framed New s r d ∷ wire) o)
     → before uri New s r d wire m ms client_state.Open c up down o → Alike uri New s r d wire m ms client_state.Open c up o
 new_shown view uri s r d wire m ms c up down q e good h =
-    let o : bridged.Editor = record e { sent = []; link = Some q } in
+    let o : N.Editor = record e { sent = []; link = Some q } in
     let there : stand_of q ≡ client_of e = stands_there view q (editor_in client_state.Open (framed New s r d ∷ wire) o) good in
     let fits : NewFits (Some q) (framed New s r d) = good.numbers.0.new refl in
     let told : down_of q ≡ d ∷ new_deltas wire = sym (good.tells refl q refl) in
@@ -254,13 +246,13 @@ new_shown view uri s r d wire m ms c up down q e good h =
 
 -- a delta of an open editor
 new_open : (view uri : List ℕ) (s r : ℕ) (d : Cells) (wire : List Frame) (m : ToEditor) (ms : List ToEditor) (c : Editor) (up down : List (List ℕ)) (sent : List Sent)
-    (link : Option Held) (e : bridged.Editor)
-    → let o : bridged.Editor = record e { sent = sent; link = link } in Good view (editor_in client_state.Open (framed New s r d ∷ wire) o)
+    (link : Option Held) (e : N.Editor)
+    → let o : N.Editor = record e { sent = sent; link = link } in Good view (editor_in client_state.Open (framed New s r d ∷ wire) o)
     → before uri New s r d wire m ms client_state.Open c up down o → Alike uri New s r d wire m ms client_state.Open c up o
 new_open view uri s r d wire m ms c up down sent None e good h = absurd (good.numbers.0.new refl)
 new_open view uri s r d wire m ms c up down [] (Some q) e good h = new_shown view uri s r d wire m ms c up down q e good h
 new_open view uri s r d wire m ms c up down (first ∷ sent) (Some q) e good h =
-    let o : bridged.Editor = record e { sent = first ∷ sent; link = Some q } in
+    let o : N.Editor = record e { sent = first ∷ sent; link = Some q } in
     let fits : NewFits (Some q) (framed New s r d) = good.numbers.0.new refl in
     let more : e.own ≡ q.link.taken + length (first ∷ sent) =
     own_grows (first ∷ sent) good.low (stand_of q) (client_of e) (leads_within view first sent q (editor_in client_state.Open (framed New s r d ∷ wire) o) good) in
@@ -272,7 +264,7 @@ new_open view uri s r d wire m ms c up down (first ∷ sent) (Some q) e good h =
       some : (x : Sent) (xs : List Sent) → x ∷ xs ≡ [] → ⊥
       some x xs is = cc
 
-heard_new : (view uri : List ℕ) (s r : ℕ) (d : Cells) (wire : List Frame) (m : ToEditor) (ms : List ToEditor) (cs : ClientState) (c : Editor) (up down : List (List ℕ)) (e : bridged.Editor)
+heard_new : (view uri : List ℕ) (s r : ℕ) (d : Cells) (wire : List Frame) (m : ToEditor) (ms : List ToEditor) (cs : ClientState) (c : Editor) (up down : List (List ℕ)) (e : N.Editor)
     → Good view (editor_in cs (framed New s r d ∷ wire) e) → before uri New s r d wire m ms cs c up down e → Alike uri New s r d wire m ms cs c up e
 heard_new view uri s r d wire m ms client_state.Opening c up down e good h =
     edit_passed New view uri s r d wire m ms client_state.Opening c up down e h
@@ -286,7 +278,7 @@ heard_new view uri s r d wire m ms client_state.Open c up down e good h = new_op
 
 -- a frame of each kind
 heard_alike : (k : Kind) (view uri : List ℕ) (s r : ℕ) (d : Cells) (wire : List Frame) (m : ToEditor) (ms : List ToEditor) (cs : ClientState) (c : Editor)
-    (up down : List (List ℕ)) (e : bridged.Editor)
+    (up down : List (List ℕ)) (e : N.Editor)
     → Good view (editor_in cs (framed k s r d ∷ wire) e) → before uri k s r d wire m ms cs c up down e → Alike uri k s r d wire m ms cs c up e
 heard_alike OpenDone view uri s r d wire m ms cs c up down e good h = heard_open_done uri s r d wire m ms cs c up down e h
 heard_alike Done view uri s r d wire m ms cs c up down e good h = heard_done uri s r d wire m ms cs c up down e h
@@ -312,7 +304,7 @@ printed_alike Old n uri ids s r m c wire says =
 -- The first frame under way.
 
 -- the seat behind the first message
-delivered_first : (view uri : List ℕ) (n : ℕ) (before after : Seat) (note : HeardNote) (e : bridged.Editor) (wire : List Frame) (messages : List ToEditor)
+delivered_first : (view uri : List ℕ) (n : ℕ) (before after : Seat) (note : HeardNote) (e : N.Editor) (wire : List Frame) (messages : List ToEditor)
     → Good view (record e { wire = wire }) → IsTiedWith messages uri before (record e { wire = wire }) → IsDelivered before note after
     → (IsTied uri after (N.delivered_first wire (record e { wire = wire }))) × (note_line n note ≡ first_line n (N.marks wire))
 delivered_first view uri n x y note e [] [] good h came = absurd (none_comes (frame_bytes came.body) came.rest (sym came.first ∙ h.frames)) where
@@ -353,7 +345,7 @@ delivered_first view uri n x y note e (f ∷ wire) (m ∷ ms) good h came =
       tails : {A : Type 0} {a b : A} {xs ys : List A} → a ∷ xs ≡ b ∷ ys → xs ≡ ys
       tails is = cc
 
-pub deliveries_are_alike : (uri view : List ℕ) (n : ℕ) (before after : Seat) (note : HeardNote) (e : bridged.Editor) → Good view e → IsTied uri before e
+pub deliveries_are_alike : (uri view : List ℕ) (n : ℕ) (before after : Seat) (note : HeardNote) (e : N.Editor) → Good view e → IsTied uri before e
     → IsDelivered before note after → DoesAlike uri n note after e
 deliveries_are_alike uri view n before after note e good tied came =
     let one = delivered_first view uri n before after note e e.wire tied.messages good tied.tied came in

@@ -17,21 +17,11 @@ use Rattle.file_uri.specs.PathOf.{path_of}
 use Rattle.file_uri.specs.UriOf.{uri_of}
 use Rattle.text_position.specs.Edits.{delta_of_edits}
 use Rattle.tt_base.specs.declared.edits.TextEdit.{TextEdit}
-use Rattle.bridge_world.specs.declared.editors.Editor as bridged
-use Rattle.bridge_world.specs.declared.editors.Message as counted_message
-use Rattle.bridge_world.specs.declared.editors.Message.TheVariants as counted
-use Rattle.bridge_world.specs.declared.marks.Cause.TheVariants as cause
 use Rattle.bridge_world.specs.Counted as N
-use Rattle.bridge_world.specs.Counted.{base_of, down_of, answer, new_frame, aged_frame, plain_link}
-use Rattle.bridge_world.specs.declared.editors.Held.{Held}
-use Rattle.bridge_world.specs.declared.editors.Frame.{Frame}
-use Rattle.bridge_world.specs.declared.editors.Sent.{Sent}
+use Rattle.bridge_world.specs.Counted.{base_of, down_of, answer, new_frame, aged_frame, plain_link, Held, Frame, Sent}
 use Rattle.bridge_world.specs.Lists.{Each}
 use Rattle.bridge_world.specs.Plain as P
-use Rattle.bridge_world.specs.Plain.{is_closed}
-use Rattle.bridge_world.specs.declared.marks.Kind.{Kind}
-use Rattle.bridge_world.specs.declared.marks.Kind.TheVariants.{OpenDone, Done, Failed, New}
-use Rattle.bridge_world.specs.declared.marks.Verdict.TheVariants.{Accepts, Refuses}
+use Rattle.bridge_world.specs.Plain.{is_closed, Kind, OpenDone, Done, Failed, New, Accepts, Refuses}
 use Rattle.bridge_world.specs.Tie.{Place, stand_of, place, edited, after, Good}
 use Rattle.bridge_world.proofs.HeldLemmas.{base_of-take}
 use Rattle.bridge_world.proofs.ListLemmas.{each-append}
@@ -77,27 +67,27 @@ first_normal content view = by (bytes_eq content view) where
 abbrev messages_of : State → ℕ → Option MessageId → Outcome → List ToEditor
 messages_of s n id o = reply id o.answer ++ own_messages s.base o.own (links_of s n)
 
-record Came (uri path : List ℕ) (s : State) (n : ℕ) (up : List (List ℕ)) (x : Seat) (left : bridged.Editor) (plain : Outcome) (id : Option MessageId) (o : Outcome) : Type 0 where
+record Came (uri path : List ℕ) (s : State) (n : ℕ) (up : List (List ℕ)) (x : Seat) (left : N.Editor) (plain : Outcome) (id : Option MessageId) (o : Outcome) : Type 0 where
   history : o.history ≡ plain.history
   effects : o.effects ≡ plain.effects
   goes_on : o.shuts_down ≡ false
   tied : IsTied uri (record x { up = up; down = x.down ++ sent_on n (outputs s n id o) }) left
   at : IsAt (state_after s n o) n path left
 
-abbrev ids_of : {ms : List ToEditor} {uri : List ℕ} {x : Seat} {e : bridged.Editor} → IsTiedWith ms uri x e → Ids
+abbrev ids_of : {ms : List ToEditor} {uri : List ℕ} {x : Seat} {e : N.Editor} → IsTiedWith ms uri x e → Ids
 ids_of {ms} {uri} {x} {e} h = record { opening = h.opening; requests = x.client.requests; session = e.session }
 
 -- an editor with a first message
-abbrev with_first : bridged.Editor → Sent → List Sent → Option Held → bridged.Editor
+abbrev with_first : N.Editor → Sent → List Sent → Option Held → N.Editor
 with_first e m sent link = record e { sent = m ∷ sent; link = link }
 
-links_are : (s : State) (n : ℕ) (path : List ℕ) (e : bridged.Editor) (at : IsAt s n path e) → links_of s n ≡ at.links
+links_are : (s : State) (n : ℕ) (path : List ℕ) (e : N.Editor) (at : IsAt s n path e) → links_of s n ≡ at.links
 links_are s n path e at = ap (λ (found : Option Links). unwrap_or found []) (once_found n at.links s.connections at.once)
 
-link_is : (s : State) (n : ℕ) (path : List ℕ) (e : bridged.Editor) → IsAt s n path e → link_of s n path ≡ option_map link_held e.link
+link_is : (s : State) (n : ℕ) (path : List ℕ) (e : N.Editor) → IsAt s n path e → link_of s n path ≡ option_map link_held e.link
 link_is s n path e at = ap (λ ls. link_at ls path) (links_are s n path e at) ∙ at.link
 
-came : (uri path : List ℕ) (s : State) (n : ℕ) (id : Option MessageId) (up : List (List ℕ)) (x : Seat) (e : bridged.Editor) (m : Sent) (sent : List Sent) (link : Option Held) (ms : List ToEditor)
+came : (uri path : List ℕ) (s : State) (n : ℕ) (id : Option MessageId) (up : List (List ℕ)) (x : Seat) (e : N.Editor) (m : Sent) (sent : List Sent) (link : Option Held) (ms : List ToEditor)
     → (h : IsTiedWith ms uri x (with_first e m sent link)) → (at : IsAt s n path (with_first e m sent link)) → (o plain : Outcome) → o.history ≡ plain.history
     → o.effects ≡ plain.effects → o.shuts_down ≡ false → (ns : List ToEditor) → messages_of s n id o ≡ ns → Each CanBeSent ns → (next : Option Held) (low : ℕ) (wire : List Frame)
     → AreBodies uri (ids_of h) (place low next) sent up → AreSaid uri (ids_of h) wire (ms ++ ns)
@@ -139,7 +129,7 @@ said_answer k uri ids t v ms m h says = said-append uri ids v (answer t k ∷ []
 
 -- ---- the message is refused, and no link changes
 
-refused_alone : (uri path : List ℕ) (s : State) (n id : ℕ) (up : List (List ℕ)) (x : Seat) (e : bridged.Editor) (t : ℕ) (k : counted_message.Message) (sent : List Sent) (ms : List ToEditor)
+refused_alone : (uri path : List ℕ) (s : State) (n id : ℕ) (up : List (List ℕ)) (x : Seat) (e : N.Editor) (t : ℕ) (k : N.Message) (sent : List Sent) (ms : List ToEditor)
     → (h : IsTiedWith ms uri x (with_first e (message t k) sent None)) → IsAt s n path (with_first e (message t k) sent None) → (a : Place) → (r : Refusal)
     → IsOf (ids_of h) t id (h.opening ≤ id) → AreBodies uri (ids_of h) a sent up
     → let o : Outcome = record (answers s (outcome.Refuses r)) { own = Stays } in Each CanBeSent (messages_of s n (Some (Number id)) o)
@@ -153,7 +143,7 @@ refused_alone uri path s n id up x e t k sent ms h at a r of rest fits =
 
 -- ---- the message ends the link
 
-ended_with : (uri path : List ℕ) (s : State) (n id : ℕ) (up : List (List ℕ)) (x : Seat) (e : bridged.Editor) (t : ℕ) (k : counted_message.Message) (sent : List Sent) (q : Held) (ms : List ToEditor)
+ended_with : (uri path : List ℕ) (s : State) (n id : ℕ) (up : List (List ℕ)) (x : Seat) (e : N.Editor) (t : ℕ) (k : N.Message) (sent : List Sent) (q : Held) (ms : List ToEditor)
     → (h : IsTiedWith ms uri x (with_first e (message t k) sent (Some q))) → IsAt s n path (with_first e (message t k) sent (Some q)) → (a : Place) → (kind : Kind) (m : ToEditor)
     → (o plain : Outcome) → o.history ≡ plain.history → o.effects ≡ plain.effects → o.shuts_down ≡ false → o.own ≡ Gone path → messages_of s n (Some (Number id)) o ≡ m ∷ []
     → Says uri (ids_of h) kind t 0 m → AreBodies uri (ids_of h) a sent up → Each CanBeSent (m ∷ [])
@@ -168,10 +158,10 @@ ended_with uri path s n id up x e t k sent q ms h at a kind m o plain history ef
 
 -- ---- a file is opened
 
-opened_with : (uri path : List ℕ) (s : State) (n id : ℕ) (up : List (List ℕ)) (x : Seat) (view : List ℕ) (e : bridged.Editor) (t : ℕ) (content : List ℕ) (first : List Cells) (sent : List Sent)
-    (ms : List ToEditor) → uri_of s.base path ≡ uri → (h : IsTiedWith ms uri x (with_first e (message t (counted.Opens content)) sent None))
-    → IsAt s n path (with_first e (message t (counted.Opens content)) sent None) → Good view (with_first e (message t (counted.Opens content)) sent None)
-    → IsOf (ids_of h) t id (id ≡ h.opening) → AreBodies uri (ids_of h) (after (message t (counted.Opens content)) (place h.low None)) sent up → Each IsNormal first
+opened_with : (uri path : List ℕ) (s : State) (n id : ℕ) (up : List (List ℕ)) (x : Seat) (view : List ℕ) (e : N.Editor) (t : ℕ) (content : List ℕ) (first : List Cells) (sent : List Sent)
+    (ms : List ToEditor) → uri_of s.base path ≡ uri → (h : IsTiedWith ms uri x (with_first e (message t (N.Opens content)) sent None))
+    → IsAt s n path (with_first e (message t (N.Opens content)) sent None) → Good view (with_first e (message t (N.Opens content)) sent None)
+    → IsOf (ids_of h) t id (id ≡ h.opening) → AreBodies uri (ids_of h) (after (message t (N.Opens content)) (place h.low None)) sent up → Each IsNormal first
     → (o : Outcome) → o.shuts_down ≡ false → o.own ≡ Opened path content first → o.answer ≡ outcome.Success → Each CanBeSent (messages_of s n (Some (Number id)) o)
     → Came uri path s n up x (N.linked t content first (record e { sent = sent; link = None })) o (Some (Number id)) o
 opened_with uri path s n id up x view e t content first sent ms uri_is h at good of rest normal o goes_on own answer_is fits =
@@ -182,7 +172,7 @@ opened_with uri path s n id up x view e t content first sent ms uri_is h at good
     ∙ ap (λ w. Success (Number id) ∷ own_messages s.base w (links_of s n)) own
     ∙ ap (λ u. Success (Number id) ∷ edit_messages u 0 content first) uri_is in
     let old = old-unlinked (is_closed e.state) e.session e.own e.wire good.numbers in
-    came uri path s n (Some (Number id)) up x e (message t (counted.Opens content)) sent None ms h at o o refl refl goes_on ns are (subst (Each CanBeSent) are fits) (Some new) t
+    came uri path s n (Some (Number id)) up x e (message t (N.Opens content)) sent None ms h at o o refl refl goes_on ns are (subst (Each CanBeSent) are fits) (Some new) t
     (e.wire ++ answer t OpenDone ∷ map (new_frame t 0) first) rest
     (said-append uri (ids_of h) e.wire (answer t OpenDone ∷ map (new_frame t 0) first) ms ns h.down
     ((id, (refl, of)), said-new uri content (ids_of h) t 0 first))
@@ -196,10 +186,10 @@ opened_with uri path s n id up x view e t content first sent ms uri_is h at good
 
 -- ---- an edit is taken
 
-took_with : (uri path : List ℕ) (s : State) (n id : ℕ) (up : List (List ℕ)) (x : Seat) (view : List ℕ) (e : bridged.Editor) (t seen : ℕ) (p : Cells) (sent : List Sent) (q : Held) (ms : List ToEditor)
-    → uri_of s.base path ≡ uri → (h : IsTiedWith ms uri x (with_first e (message t (counted.Edits seen p)) sent (Some q)))
-    → IsAt s n path (with_first e (message t (counted.Edits seen p)) sent (Some q)) → seen ≡ q.seen
-    → IsOf (ids_of h) t id (h.opening < id) → AreBodies uri (ids_of h) (after (message t (counted.Edits seen p)) (place h.low (Some q))) sent up
+took_with : (uri path : List ℕ) (s : State) (n id : ℕ) (up : List (List ℕ)) (x : Seat) (view : List ℕ) (e : N.Editor) (t seen : ℕ) (p : Cells) (sent : List Sent) (q : Held) (ms : List ToEditor)
+    → uri_of s.base path ≡ uri → (h : IsTiedWith ms uri x (with_first e (message t (N.Edits seen p)) sent (Some q)))
+    → IsAt s n path (with_first e (message t (N.Edits seen p)) sent (Some q)) → seen ≡ q.seen
+    → IsOf (ids_of h) t id (h.opening < id) → AreBodies uri (ids_of h) (after (message t (N.Edits seen p)) (place h.low (Some q))) sent up
     → (o plain : Outcome) → o.history ≡ plain.history → o.effects ≡ plain.effects → o.shuts_down ≡ false → o.own ≡ Taken path seen p → o.answer ≡ outcome.Success
     → Each CanBeSent (messages_of s n (Some (Number id)) o)
     → Came uri path s n up x (N.took t seen p q (record e { sent = sent; link = Some q })) plain (Some (Number id)) o
@@ -208,7 +198,7 @@ took_with uri path s n id up x view e t seen p sent q ms uri_is h at shown of re
     let new : Held = record q { link = l } in
     let again : List Frame = answer t Done ∷ map (new_frame q.session l.taken) l.unconfirmed in
     let ns : List ToEditor = Success (Number id) ∷ edit_messages uri l.taken l.base l.unconfirmed in
-    let found : link_at (links_of s n) path ≡ Some q.link = link_is s n path (with_first e (message t (counted.Edits seen p)) sent (Some q)) at in
+    let found : link_at (links_of s n) path ≡ Some q.link = link_is s n path (with_first e (message t (N.Edits seen p)) sent (Some q)) at in
     let are : messages_of s n (Some (Number id)) o ≡ ns =
     ap (λ w. reply (Some (Number id)) w ++ own_messages s.base o.own (links_of s n)) answer_is
     ∙ ap (λ w. Success (Number id) ∷ own_messages s.base w (links_of s n)) own
@@ -217,9 +207,9 @@ took_with uri path s n id up x view e t seen p sent q ms uri_is h at shown of re
     let base : base_of new ≡ applied p (base_of q) = base_of-take seen p q shown in
     let now : base_of new ≡ l.base = base ∙ ap (λ k. applied p (editor_text k q.link)) (sym shown) in
     let stands : stand_of new ≡ edited p (stand_of q) = ap (λ b. record { text = b; seen = q.seen; own = q.link.taken + 1 }) base in
-    came uri path s n (Some (Number id)) up x e (message t (counted.Edits seen p)) sent (Some q) ms h at o plain history effects goes_on ns are (subst (Each CanBeSent) are fits) (Some new) h.low
+    came uri path s n (Some (Number id)) up x e (message t (N.Edits seen p)) sent (Some q) ms h at o plain history effects goes_on ns are (subst (Each CanBeSent) are fits) (Some new) h.low
     (map aged_frame e.wire ++ again)
-    (bodies_weaker uri (ids_of h) (after (message t (counted.Edits seen p)) (place h.low (Some q))) (place h.low (Some new)) sent up
+    (bodies_weaker uri (ids_of h) (after (message t (N.Edits seen p)) (place h.low (Some q))) (place h.low (Some new)) sent up
     (λ there is. ap (λ a. Some a) (sym stands) ∙ is) rest)
     (said-append uri (ids_of h) (map aged_frame e.wire) again ms ns (said-aged uri (ids_of h) e.wire ms h.down)
     ((id, (refl, of)), said-new uri l.base (ids_of h) q.session l.taken l.unconfirmed))
@@ -235,7 +225,7 @@ took_with uri path s n id up x view e t seen p sent q ms uri_is h at shown of re
 -- ---- the messages
 
 -- where what is sent can be sent, it comes to that
-abbrev Claim : List ℕ → List ℕ → State → ℕ → List (List ℕ) → Seat → bridged.Editor → Outcome → Option MessageId → Outcome → Type 0
+abbrev Claim : List ℕ → List ℕ → State → ℕ → List (List ℕ) → Seat → N.Editor → Outcome → Option MessageId → Outcome → Type 0
 Claim uri path s n up x left plain id o = Each CanBeSent (messages_of s n id o) → Came uri path s n up x left plain id o
 
 -- one change, or that the text would be too long
@@ -250,13 +240,13 @@ grown s path d own if_refused b =
     if b then Ok (with_change s path d own) else Err (record { refusal = too_long s path d; own = if_refused })
 
 -- the editor that is left by a step of its message
-abbrev left_by : State → List ℕ → counted_message.Message → ℕ → List Sent → Option Held → bridged.Editor → Step Outcome → bridged.Editor
+abbrev left_by : State → List ℕ → N.Message → ℕ → List Sent → Option Held → N.Editor → Step Outcome → N.Editor
 left_by s path k t sent link e step =
     N.handled_by k link (verdict_of step) (text_at (or_refusal s step).history path) t (record e { sent = sent; link = link })
 
 -- the facts of a message that comes
-record Comes (uri path : List ℕ) (s : State) (n id : ℕ) (up : List (List ℕ)) (x : Seat) (k : counted_message.Message) (t : ℕ)
-    (sent : List Sent) (link : Option Held) (e : bridged.Editor) (ms : List ToEditor)
+record Comes (uri path : List ℕ) (s : State) (n id : ℕ) (up : List (List ℕ)) (x : Seat) (k : N.Message) (t : ℕ)
+    (sent : List Sent) (link : Option Held) (e : N.Editor) (ms : List ToEditor)
     (view : List ℕ) : Type 0 where
   path_is : path_of s.base uri ≡ Ok path
   uri_is : uri_of s.base path ≡ uri
@@ -271,22 +261,22 @@ of_weaker ids t id f of = record {
   place = elim of.place [ inl mine ↦ inl (mine.0, f mine.1) | inr older ↦ inr older ];
 }
 
-module _ (uri path : List ℕ) (s : State) (n id : ℕ) (up : List (List ℕ)) (x : Seat) (t : ℕ) (sent : List Sent) (e : bridged.Editor) (ms : List ToEditor) (view : List ℕ) where
+module _ (uri path : List ℕ) (s : State) (n id : ℕ) (up : List (List ℕ)) (x : Seat) (t : ℕ) (sent : List Sent) (e : N.Editor) (ms : List ToEditor) (view : List ℕ) where
   -- a file is opened, where its link is not there
-  open_claim : (content : List ℕ) → (c : Comes uri path s n id up x (counted.Opens content) t sent None e ms view) → IsOf (ids_of c.tied) t id (id ≡ c.tied.opening)
+  open_claim : (content : List ℕ) → (c : Comes uri path s n id up x (N.Opens content) t sent None e ms view) → IsOf (ids_of c.tied) t id (id ≡ c.tied.opening)
       → let step : Step Outcome = opening s path content (view_at s.history path) in
-      Claim uri path s n up x (left_by s path (counted.Opens content) t sent None e step) (or_refusal s step) (Some (Number id)) (or_refusal s step)
+      Claim uri path s n up x (left_by s path (N.Opens content) t sent None e step) (or_refusal s step) (Some (Number id)) (or_refusal s step)
   open_claim content c of = by_view (view_at s.history path) refl where
     d : Cells
     d = inserting content
 
-    refused_claim : Claim uri path s n up x (left_by s path (counted.Opens content) t sent None e (grown s path d (Opened path content []) Stays false))
+    refused_claim : Claim uri path s n up x (left_by s path (N.Opens content) t sent None e (grown s path d (Opened path content []) Stays false))
         (or_refusal s (grown s path d (Opened path content []) Stays false)) (Some (Number id)) (or_refusal s (grown s path d (Opened path content []) Stays false))
     refused_claim fits =
-        refused_alone uri path s n id up x e t (counted.Opens content) sent ms c.tied c.at (after (message t (counted.Opens content)) (place c.tied.low None)) (too_long s path d)
+        refused_alone uri path s n id up x e t (N.Opens content) sent ms c.tied c.at (after (message t (N.Opens content)) (place c.tied.low None)) (too_long s path d)
         (of_weaker (ids_of c.tied) t id (λ same. omega (arith, same)) of) c.rest fits
 
-    made_claim : text_at s.history path ≡ [] → Claim uri path s n up x (left_by s path (counted.Opens content) t sent None e (grown s path d (Opened path content []) Stays true))
+    made_claim : text_at s.history path ≡ [] → Claim uri path s n up x (left_by s path (N.Opens content) t sent None e (grown s path d (Opened path content []) Stays true))
         (or_refusal s (grown s path d (Opened path content []) Stays true)) (Some (Number id)) (or_refusal s (grown s path d (Opened path content []) Stays true))
     made_claim empty fits =
         let o : Outcome = with_change s path d (Opened path content []) in
@@ -296,13 +286,13 @@ module _ (uri path : List ℕ) (s : State) (n id : ℕ) (up : List (List ℕ)) (
         subst (λ first. Came uri path s n up x (N.linked t content first (record e { sent = sent; link = None })) o (Some (Number id)) o) (sym none)
         (opened_with uri path s n id up x view e t content [] sent ms c.uri_is c.tied c.at c.good of c.rest tt o refl refl refl fits)
 
-    by_size : text_at s.history path ≡ [] → (b : Bool) → Claim uri path s n up x (left_by s path (counted.Opens content) t sent None e (grown s path d (Opened path content []) Stays b))
+    by_size : text_at s.history path ≡ [] → (b : Bool) → Claim uri path s n up x (left_by s path (N.Opens content) t sent None e (grown s path d (Opened path content []) Stays b))
         (or_refusal s (grown s path d (Opened path content []) Stays b)) (Some (Number id)) (or_refusal s (grown s path d (Opened path content []) Stays b))
     by_size empty true = made_claim empty
     by_size empty false = refused_claim
 
     by_view : (seen : Option (List ℕ)) → view_at s.history path ≡ seen
-        → Claim uri path s n up x (left_by s path (counted.Opens content) t sent None e (opening s path content seen)) (or_refusal s (opening s path content seen)) (Some (Number id))
+        → Claim uri path s n up x (left_by s path (N.Opens content) t sent None e (opening s path content seen)) (or_refusal s (opening s path content seen)) (Some (Number id))
         (or_refusal s (opening s path content seen))
     by_view (Some there) is =
         let text : text_at s.history path ≡ there = ap (λ (v : Option (List ℕ)). unwrap_or v []) is in
@@ -312,11 +302,11 @@ module _ (uri path : List ℕ) (s : State) (n id : ℕ) (up : List (List ℕ)) (
     by_view None is = by_size (ap (λ (v : Option (List ℕ)). unwrap_or v []) is) (grows s path d)
 
   -- an edit comes to its link
-  edit_claim : (seen : ℕ) (p : Cells) (q : Held) → (c : Comes uri path s n id up x (counted.Edits seen p) t sent (Some q) e ms view) → IsOf (ids_of c.tied) t id (c.tied.opening < id)
-      → Claim uri path s n up x (left_by s path (counted.Edits seen p) t sent (Some q) e (plain_step s path (P.Edits p) (Some (plain_link q))))
+  edit_claim : (seen : ℕ) (p : Cells) (q : Held) → (c : Comes uri path s n id up x (N.Edits seen p) t sent (Some q) e ms view) → IsOf (ids_of c.tied) t id (c.tied.opening < id)
+      → Claim uri path s n up x (left_by s path (N.Edits seen p) t sent (Some q) e (plain_step s path (P.Edits p) (Some (plain_link q))))
       (or_refusal s (plain_step s path (P.Edits p) (Some (plain_link q)))) (Some (Number id)) (or_refusal s (changed s path (carried_edit seen p q.link) (Taken path seen p) (Gone path)))
   edit_claim seen p q c of =
-      subst (λ y. Claim uri path s n up x (left_by s path (counted.Edits seen p) t sent (Some q) e (grown s path y Stays Stays (grows s path y)))
+      subst (λ y. Claim uri path s n up x (left_by s path (N.Edits seen p) t sent (Some q) e (grown s path y Stays Stays (grows s path y)))
       (or_refusal s (grown s path y Stays Stays (grows s path y)))
       (Some (Number id)) (or_refusal s (grown s path d (Taken path seen p) (Gone path) (grows s path d)))) same (by_size (grows s path d)) where
         d : Cells
@@ -328,31 +318,31 @@ module _ (uri path : List ℕ) (s : State) (n id : ℕ) (up : List (List ℕ)) (
         same : d ≡ past_list p (plain_link q).down
         same = ap (λ k. past_list p (unshown k q.link)) shown
 
-        by_size : (b : Bool) → Claim uri path s n up x (left_by s path (counted.Edits seen p) t sent (Some q) e (grown s path d Stays Stays b))
+        by_size : (b : Bool) → Claim uri path s n up x (left_by s path (N.Edits seen p) t sent (Some q) e (grown s path d Stays Stays b))
             (or_refusal s (grown s path d Stays Stays b)) (Some (Number id)) (or_refusal s (grown s path d (Taken path seen p) (Gone path) b))
         by_size true = λ fits.
             took_with uri path s n id up x view e t seen p sent q ms c.uri_is c.tied c.at shown of c.rest (with_change s path d (Taken path seen p))
             (with_change s path d Stays) refl refl refl refl refl fits
         by_size false = λ fits.
-            ended_with uri path s n id up x e t (counted.Edits seen p) sent q ms c.tied c.at
-            (after (message t (counted.Edits seen p)) (place c.tied.low (Some q))) (Failed (cause_of (too_long s path d)))
+            ended_with uri path s n id up x e t (N.Edits seen p) sent q ms c.tied c.at
+            (after (message t (N.Edits seen p)) (place c.tied.low (Some q))) (Failed (cause_of (too_long s path d)))
             (Refused (Number id) (too_long s path d)) (record (answers s (outcome.Refuses (too_long s path d))) { own = Gone path })
             (record (answers s (outcome.Refuses (too_long s path d))) { own = Stays }) refl refl refl refl refl
             (id, (record { refusal = too_long s path d; is = refl; told = refl }, of_weaker (ids_of c.tied) t id (λ later. omega (arith, later)) of)) c.rest fits
 
   -- a message for a link that is not there
-  not_open_claim : (k : counted_message.Message) → (c : Comes uri path s n id up x k t sent None e ms view) → IsOf (ids_of c.tied) t id (c.tied.opening < id)
+  not_open_claim : (k : N.Message) → (c : Comes uri path s n id up x k t sent None e ms view) → IsOf (ids_of c.tied) t id (c.tied.opening < id)
       → let o : Outcome = record (answers s (outcome.Refuses NotOpen)) { own = Stays } in
-      Claim uri path s n up x (N.answered t (Failed cause.NotOpen) (record e { sent = sent; link = None })) o (Some (Number id)) o
+      Claim uri path s n up x (N.answered t (Failed P.NotOpen) (record e { sent = sent; link = None })) o (Some (Number id)) o
   not_open_claim k c of fits =
       refused_alone uri path s n id up x e t k sent ms c.tied c.at (after (message t k) (place c.tied.low None)) NotOpen
       (of_weaker (ids_of c.tied) t id (λ later. omega (arith, later)) of) c.rest fits
 
   -- a close comes to its link
-  close_claim : (q : Held) → (c : Comes uri path s n id up x counted.Closes t sent (Some q) e ms view) → IsOf (ids_of c.tied) t id (c.tied.opening < id)
+  close_claim : (q : Held) → (c : Comes uri path s n id up x N.Closes t sent (Some q) e ms view) → IsOf (ids_of c.tied) t id (c.tied.opening < id)
       → Claim uri path s n up x (N.ended t Done (record e { sent = sent; link = Some q })) (answers s outcome.Success) (Some (Number id)) (record (answers s outcome.Success) { own = Gone path })
   close_claim q c of fits =
-      ended_with uri path s n id up x e t counted.Closes sent q ms c.tied c.at (after (message t counted.Closes) (place c.tied.low (Some q))) Done (Success (Number id))
+      ended_with uri path s n id up x e t N.Closes sent q ms c.tied c.at (after (message t N.Closes) (place c.tied.low (Some q))) Done (Success (Number id))
       (record (answers s outcome.Success) { own = Gone path }) (answers s outcome.Success) refl refl refl refl refl (id, (refl, of)) c.rest fits
 
 -- What the daemon's own step is.
@@ -391,26 +381,26 @@ known_revision : (seen : ℕ) (l : Link) → l.confirmed ≤ seen → seen ≤ i
 known_revision seen l low high = grind (arith, nat_tests)
 
 -- each message
-by_message : (uri path : List ℕ) (s : State) (n id : ℕ) (up : List (List ℕ)) (x : Seat) (t : ℕ) (sent : List Sent) (e : bridged.Editor) (ms : List ToEditor)
-    (view : List ℕ) (k : counted_message.Message)
+by_message : (uri path : List ℕ) (s : State) (n id : ℕ) (up : List (List ℕ)) (x : Seat) (t : ℕ) (sent : List Sent) (e : N.Editor) (ms : List ToEditor)
+    (view : List ℕ) (k : N.Message)
     (link : Option Held) (asked : FromEditor) → (c : Comes uri path s n id up x k t sent link e ms view) → Asks uri (ids_of c.tied) k t id (place c.tied.low link) asked
     → let step : Step Outcome = plain_step s path (N.plain_message k) (option_map plain_link link) in
     Claim uri path s n up x (left_by s path k t sent link e step) (or_refusal s step) (Some (Number id)) (or_refusal s (on_message s n asked))
-by_message uri path s n id up x t sent e ms view (counted.Opens content) None asked c says =
+by_message uri path s n id up x t sent e ms view (N.Opens content) None asked c says =
     let step : Step Outcome = opening s path content (view_at s.history path) in
     let is : on_message s n asked ≡ step =
-    ap (on_message s n) says.0 ∙ open_is uri path content s n c.path_is (link_is s n path (with_first e (message t (counted.Opens content)) sent None) c.at) in
-    subst (λ st. Claim uri path s n up x (left_by s path (counted.Opens content) t sent None e step) (or_refusal s step) (Some (Number id)) (or_refusal s st)) (sym is)
+    ap (on_message s n) says.0 ∙ open_is uri path content s n c.path_is (link_is s n path (with_first e (message t (N.Opens content)) sent None) c.at) in
+    subst (λ st. Claim uri path s n up x (left_by s path (N.Opens content) t sent None e step) (or_refusal s step) (Some (Number id)) (or_refusal s st)) (sym is)
     (open_claim uri path s n id up x t sent e ms view content c says.1)
-by_message uri path s n id up x t sent e ms view (counted.Opens content) (Some q) asked c says = let never : Some (stand_of q) ≡ None = c.good.sent.0.0 in cc
-by_message uri path s n id up x t sent e ms view (counted.Edits seen p) None asked c says =
+by_message uri path s n id up x t sent e ms view (N.Opens content) (Some q) asked c says = let never : Some (stand_of q) ≡ None = c.good.sent.0.0 in cc
+by_message uri path s n id up x t sent e ms view (N.Edits seen p) None asked c says =
     let is : on_message s n asked ≡ edit_from s path seen says.0 None =
     ap (on_message s n) says.1.0 ∙ edit_is uri path seen says.0 s n c.path_is
-    ∙ ap (edit_from s path seen says.0) (link_is s n path (with_first e (message t (counted.Edits seen p)) sent None) c.at) in
+    ∙ ap (edit_from s path seen says.0) (link_is s n path (with_first e (message t (N.Edits seen p)) sent None) c.at) in
     let o : Outcome = record (answers s (outcome.Refuses NotOpen)) { own = Stays } in
-    subst (λ st. Claim uri path s n up x (N.answered t (Failed cause.NotOpen) (record e { sent = sent; link = None })) o (Some (Number id)) (or_refusal s st)) (sym is)
-    (not_open_claim uri path s n id up x t sent e ms view (counted.Edits seen p) c says.1.1.1.1)
-by_message uri path s n id up x t sent e ms view (counted.Edits seen p) (Some q) asked c says =
+    subst (λ st. Claim uri path s n up x (N.answered t (Failed P.NotOpen) (record e { sent = sent; link = None })) o (Some (Number id)) (or_refusal s st)) (sym is)
+    (not_open_claim uri path s n id up x t sent e ms view (N.Edits seen p) c says.1.1.1.1)
+by_message uri path s n id up x t sent e ms view (N.Edits seen p) (Some q) asked c says =
     let shown : seen ≡ q.seen = c.good.sent.0.1.0 in
     let known : revision_fault seen q.link ≡ None =
     known_revision seen q.link (omega (arith, shown, c.good.link.confirmed)) (omega (arith, shown, c.good.link.seen)) in
@@ -418,37 +408,37 @@ by_message uri path s n id up x t sent e ms view (counted.Edits seen p) (Some q)
     ap (λ k. delta_of_edits (editor_text k q.link) says.0) shown ∙ says.1.1.1.0 (stand_of q) refl in
     let is : on_message s n asked ≡ changed s path (carried_edit seen p q.link) (Taken path seen p) (Gone path) =
     ap (on_message s n) says.1.0 ∙ edit_is uri path seen says.0 s n c.path_is
-    ∙ ap (edit_from s path seen says.0) (link_is s n path (with_first e (message t (counted.Edits seen p)) sent (Some q)) c.at)
+    ∙ ap (edit_from s path seen says.0) (link_is s n path (with_first e (message t (N.Edits seen p)) sent (Some q)) c.at)
     ∙ edit_read path seen says.0 p q.link s known reads in
     let step : Step Outcome = plain_step s path (P.Edits p) (Some (plain_link q)) in
-    subst (λ st. Claim uri path s n up x (left_by s path (counted.Edits seen p) t sent (Some q) e step) (or_refusal s step) (Some (Number id)) (or_refusal s st)) (sym is)
+    subst (λ st. Claim uri path s n up x (left_by s path (N.Edits seen p) t sent (Some q) e step) (or_refusal s step) (Some (Number id)) (or_refusal s st)) (sym is)
     (edit_claim uri path s n id up x t sent e ms view seen p q c says.1.1.1.1)
-by_message uri path s n id up x t sent e ms view counted.Closes None asked c says =
-    let is = ap (on_message s n) says.0 ∙ close_is uri path s n None c.path_is (link_is s n path (with_first e (message t counted.Closes) sent None) c.at) in
+by_message uri path s n id up x t sent e ms view N.Closes None asked c says =
+    let is = ap (on_message s n) says.0 ∙ close_is uri path s n None c.path_is (link_is s n path (with_first e (message t N.Closes) sent None) c.at) in
     let o : Outcome = record (answers s (outcome.Refuses NotOpen)) { own = Stays } in
-    subst (λ st. Claim uri path s n up x (N.answered t (Failed cause.NotOpen) (record e { sent = sent; link = None })) o (Some (Number id)) (or_refusal s st)) (sym is)
-    (not_open_claim uri path s n id up x t sent e ms view counted.Closes c says.1)
-by_message uri path s n id up x t sent e ms view counted.Closes (Some q) asked c says =
-    let is = ap (on_message s n) says.0 ∙ close_is uri path s n (Some q.link) c.path_is (link_is s n path (with_first e (message t counted.Closes) sent (Some q)) c.at) in
+    subst (λ st. Claim uri path s n up x (N.answered t (Failed P.NotOpen) (record e { sent = sent; link = None })) o (Some (Number id)) (or_refusal s st)) (sym is)
+    (not_open_claim uri path s n id up x t sent e ms view N.Closes c says.1)
+by_message uri path s n id up x t sent e ms view N.Closes (Some q) asked c says =
+    let is = ap (on_message s n) says.0 ∙ close_is uri path s n (Some q.link) c.path_is (link_is s n path (with_first e (message t N.Closes) sent (Some q)) c.at) in
     subst (λ st. Claim uri path s n up x (N.ended t Done (record e { sent = sent; link = Some q })) (answers s outcome.Success) (Some (Number id)) (or_refusal s st)) (sym is)
     (close_claim uri path s n id up x t sent e ms view q c says.1)
 
 -- a body that is read as that message
-by_sent : (uri path body : List ℕ) (up : List (List ℕ)) (s : State) (n : ℕ) (x : Seat) (e : bridged.Editor) (ms : List ToEditor) (view : List ℕ) (sent : List Sent)
-    → let c : bridged.Editor = record e { sent = sent } in Good view c → IsTiedWith ms uri (record x { up = body ∷ up }) c → IsAt s n path c → path_of s.base uri ≡ Ok path → uri_of s.base path ≡ uri
+by_sent : (uri path body : List ℕ) (up : List (List ℕ)) (s : State) (n : ℕ) (x : Seat) (e : N.Editor) (ms : List ToEditor) (view : List ℕ) (sent : List Sent)
+    → let c : N.Editor = record e { sent = sent } in Good view c → IsTiedWith ms uri (record x { up = body ∷ up }) c → IsAt s n path c → path_of s.base uri ≡ Ok path → uri_of s.base path ≡ uri
     → Each CanBeSent (answer_messages s n body) → HandlesAlike uri s n path body up x c
 by_sent uri path body up s n x e ms view [] good h at path_is uri_is fits = absurd h.up
 by_sent uri path body up s n x e ms view (m ∷ sent) good h at path_is uri_is fits =
     let b : IsBody uri (ids_of h) (place h.low e.link) m body = h.up.0 in
     let y : Seat = record x { up = body ∷ up } in
-    let c : bridged.Editor = record e { sent = m ∷ sent } in
+    let c : N.Editor = record e { sent = m ∷ sent } in
     let claim = by_message uri path s n b.id up y m.session sent e ms view m.message e.link b.asked
     (record { path_is = path_is; uri_is = uri_is; tied = h; at = at; good = good; rest = h.up.1 }) b.says in
     let came = subst (λ (r : Result Incoming MessageFault). Each CanBeSent (messages_of s n (id_of r) (outcome_of s n r))
     → Came uri path s n up y (editor_after s path c) (or_refusal s (plain_step_of s path c)) (id_of r) (outcome_of s n r)) (sym b.read) claim fits in
     record { history = came.history; effects = came.effects; goes_on = came.goes_on; tied = came.tied; at = came.at }
 
-pub handlings_are_alike : (uri path body : List ℕ) (up : List (List ℕ)) (s : State) (n : ℕ) (x : Seat) (e : bridged.Editor) → Good (text_at s.history path) e → IsTied uri x e → IsAt s n path e
+pub handlings_are_alike : (uri path body : List ℕ) (up : List (List ℕ)) (s : State) (n : ℕ) (x : Seat) (e : N.Editor) → Good (text_at s.history path) e → IsTied uri x e → IsAt s n path e
     → path_of s.base uri ≡ Ok path → uri_of s.base path ≡ uri → x.up ≡ body ∷ up → Each CanBeSent (answer_messages s n body) → HandlesAlike uri s n path body up x e
 handlings_are_alike uri path body up s n x e good tied at path_is uri_is first fits =
     by_sent uri path body up s n x e tied.messages (text_at s.history path) e.sent good

@@ -5,13 +5,9 @@ use Rattle.file_uri.specs.Base.{BaseView}
 use Rattle.text_position.specs.Changes.{Change, edit_for}
 use Rattle.text_position.specs.Edits.{delta_of_edits}
 use Rattle.text_position.proofs.EditLemmas.{IsNormal-replacing}
-use Rattle.bridge_world.specs.declared.editors.Editor as bridged
-use Rattle.bridge_world.specs.declared.editors.Message.TheVariants as counted
-use Rattle.bridge_world.specs.declared.editors.Sent as counted_sent
+use Rattle.bridge_world.specs.Counted.{Held}
 use Rattle.bridge_world.specs.Counted as N
-use Rattle.bridge_world.specs.declared.editors.Held.{Held}
-use Rattle.bridge_world.specs.Plain.{is_closed}
-use Rattle.bridge_world.specs.declared.marks.State.TheVariants.{Closed}
+use Rattle.bridge_world.specs.Plain.{is_closed, Closed}
 use Rattle.bridge_world.specs.Room.{new_counted}
 use Rattle.bridge_world.specs.Tie.{Stand, client_of, place, reached, Aims, Good}
 use Rattle.bridge_world.proofs.ListLemmas.{push_not_empty}
@@ -28,7 +24,7 @@ use Rattle.frame_world.proofs.BodyLemmas.{GoOn, weaker_reached, bodies-push, bod
 use Rattle.frame_world.proofs.RequestLemmas.{requests_are_read, changes_are_read}
 
 -- an edit is for the text that the editor shows, once all before it is taken
-reads_there : (view : List ℕ) (c : Editor) (change : Change) (e : bridged.Editor) (low : ℕ) → Good view e → is_closed e.state ≡ false → c.text ≡ e.text → IsTold c change
+reads_there : (view : List ℕ) (c : Editor) (change : Change) (e : N.Editor) (low : ℕ) → Good view e → is_closed e.state ≡ false → c.text ≡ e.text → IsTold c change
     → ReadsAs (delta_of change c.text) (edit_for c.text change ∷ []) (reached e.sent (place low e.link))
 reads_there view c change e low good live text told there is =
     let aims : Aims false (reached e.sent (place good.low e.link)).stand e.link good.low e.session (client_of e) (N.marks e.wire) =
@@ -43,7 +39,7 @@ reads_there view c change e low good live text told there is =
     ]
 
 -- a change, where the text is not closed
-typed_live : (base : BaseView) (path uri view : List ℕ) (change : Change) (cs : ClientState) (c : Editor) (x : Seat) (e : bridged.Editor)
+typed_live : (base : BaseView) (path uri view : List ℕ) (change : Change) (cs : ClientState) (c : Editor) (x : Seat) (e : N.Editor)
     → is_closed (state_of cs) ≡ false → IsClientOf base path (record c { state = cs }) → IsChangeOf (record c { state = cs }) change
     → Good view (record e { state = state_of cs })
     → IsTied uri (record x { client = record c { state = cs } }) (record e { state = state_of cs })
@@ -52,14 +48,14 @@ typed_live : (base : BaseView) (path uri view : List ℕ) (change : Change) (cs 
     (N.typed_where false d (record e { state = state_of cs }))
 typed_live base path uri view change cs c x e live of changes good tied =
     let client : Editor = record c { state = cs } in
-    let f : bridged.Editor = record e { state = state_of cs } in
+    let f : N.Editor = record e { state = state_of cs } in
     let d : Cells = delta_of change c.text in
     let h = tied.tied in
     let told : IsTold client change = changes_are_read base path client change of changes in
     let ids : Ids = record { opening = h.opening; requests = c.requests; session = e.session } in
     let next : Ids = record { opening = h.opening; requests = c.requests + 1; session = e.session } in
     let go : GoOn ids next = one_more h.opening c.requests e.session in
-    let m : counted_sent.Sent = record { session = e.session; message = counted.Edits e.shown d } in
+    let m : N.Sent = record { session = e.session; message = N.Edits e.shown d } in
     record {
       messages = tied.messages;
       tied = record {
@@ -100,7 +96,7 @@ typed_live base path uri view change cs c x e live of changes good tied =
       };
     }
 
-typed_in : (base : BaseView) (path uri view : List ℕ) (change : Change) (cs : ClientState) (c : Editor) (x : Seat) (e : bridged.Editor)
+typed_in : (base : BaseView) (path uri view : List ℕ) (change : Change) (cs : ClientState) (c : Editor) (x : Seat) (e : N.Editor)
     → IsClientOf base path (record c { state = cs }) → IsChangeOf (record c { state = cs }) change → Good view (record e { state = state_of cs })
     → IsTied uri (record x { client = record c { state = cs } }) (record e { state = state_of cs })
     → IsTied uri (typed change (record x { client = record c { state = cs } })) (N.typed (delta_of change c.text) (record e { state = state_of cs }))
@@ -133,7 +129,7 @@ typed_in base path uri view change client_state.Closed c x e of changes good tie
       };
     })
 
-tied_typed : (base : BaseView) (path uri view : List ℕ) (change : Change) (x : Seat) (e : bridged.Editor) → IsClientOf base path x.client → IsChangeOf x.client change → Good view e → IsTied uri x e
+tied_typed : (base : BaseView) (path uri view : List ℕ) (change : Change) (x : Seat) (e : N.Editor) → IsClientOf base path x.client → IsChangeOf x.client change → Good view e → IsTied uri x e
     → IsTied uri (typed change x) (N.typed (delta_of change x.client.text) e)
 tied_typed base path uri view change x e of changes good tied =
     let state = tied.tied.state in
@@ -141,14 +137,14 @@ tied_typed base path uri view change x e of changes good tied =
     (typed_in base path uri view change x.client.state x.client x e of changes (subst (λ st. Good view (record e { state = st })) (sym state) good)
     (subst (λ st. IsTied uri x (record e { state = st })) (sym state) tied))
 
-tied_opened : (base : BaseView) (path uri : List ℕ) (x : Seat) (e : bridged.Editor) → IsClientOf base path x.client → IsTied uri x e → IsTied uri (opened x) (N.opened e)
+tied_opened : (base : BaseView) (path uri : List ℕ) (x : Seat) (e : N.Editor) → IsClientOf base path x.client → IsTied uri x e → IsTied uri (opened x) (N.opened e)
 tied_opened base path uri x e of tied =
     let h = tied.tied in
     let c : Editor = x.client in
     let ids : Ids = record { opening = h.opening; requests = c.requests; session = e.session } in
     let next : Ids = record { opening = c.requests + 1; requests = c.requests + 1; session = e.session + 1 } in
     let go : GoOn ids next = one_open h.opening c.requests e.session in
-    let m : counted_sent.Sent = record { session = e.session + 1; message = counted.Opens e.text } in
+    let m : N.Sent = record { session = e.session + 1; message = N.Opens e.text } in
     record {
       messages = tied.messages;
       tied = record {
@@ -176,14 +172,14 @@ tied_opened base path uri x e of tied =
       };
     }
 
-tied_closed : (base : BaseView) (path uri : List ℕ) (x : Seat) (e : bridged.Editor) → IsClientOf base path x.client → IsTied uri x e → IsTied uri (closed x) (N.closed e)
+tied_closed : (base : BaseView) (path uri : List ℕ) (x : Seat) (e : N.Editor) → IsClientOf base path x.client → IsTied uri x e → IsTied uri (closed x) (N.closed e)
 tied_closed base path uri x e of tied =
     let h = tied.tied in
     let c : Editor = x.client in
     let ids : Ids = record { opening = h.opening; requests = c.requests; session = e.session } in
     let next : Ids = record { opening = h.opening; requests = c.requests + 1; session = e.session } in
     let go : GoOn ids next = one_more h.opening c.requests e.session in
-    let m : counted_sent.Sent = record { session = e.session; message = counted.Closes } in
+    let m : N.Sent = record { session = e.session; message = N.Closes } in
     record {
       messages = tied.messages;
       tied = record {
@@ -211,7 +207,7 @@ tied_closed base path uri x e of tied =
       };
     }
 
-tied_lost : (uri : List ℕ) (x : Seat) (e : bridged.Editor) → IsTied uri x e → IsTied uri (lost x) (N.lost e)
+tied_lost : (uri : List ℕ) (x : Seat) (e : N.Editor) → IsTied uri x e → IsTied uri (lost x) (N.lost e)
 tied_lost uri x e tied =
     let h = tied.tied in
     record {

@@ -4,11 +4,9 @@ use Rattle.std.specs.Prelude.{if◌then◌else◌}
 use Rattle.std.specs.Ordering.{is_eq}
 use Rattle.std.proofs.lemmas.Cmp.{tied_itself, nat_cmp_total}
 use Rattle.delta.specs.Cells.{Cells, applied, IsNormal}
-use Rattle.bridge_world.specs.Counted.{new_frame, aged_frame}
-use Rattle.bridge_world.specs.declared.editors.Frame.{Frame}
+use Rattle.bridge_world.specs.Counted.{new_frame, aged_frame, Frame}
+use Rattle.bridge_world.specs.Plain.{Kind, OpenDone, Done, Failed, New, Old}
 use Rattle.bridge_world.specs.Lists.{Each}
-use Rattle.bridge_world.specs.declared.marks.Kind.{Kind}
-use Rattle.bridge_world.specs.declared.marks.Kind.TheVariants.{OpenDone, Done, Failed, New, Old}
 use Rattle.bridge_world.specs.Tie.{FrameFits}
 use Rattle.file_uri.specs.Base.{BaseView}
 use Rattle.rpc_message.specs.declared.messages.ToEditor.{ToEditor}

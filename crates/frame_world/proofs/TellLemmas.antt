@@ -10,14 +10,10 @@ use Rattle.transform.proofs.ChainLemmas.{applied_all-take-drop}
 use Rattle.editor_bridge.specs.Link.{Link, daemon_text, with_pushed}
 use Rattle.file_uri.specs.Base.{BaseView}
 use Rattle.file_uri.specs.UriOf.{uri_of}
-use Rattle.bridge_world.specs.declared.editors.Editor as bridged
+use Rattle.bridge_world.specs.Plain.{Kind, OpenDone, Done, Failed, New, Old}
 use Rattle.bridge_world.specs.Counted as N
-use Rattle.bridge_world.specs.Counted.{base_of, down_of, new_frame}
-use Rattle.bridge_world.specs.declared.editors.Held.{Held}
-use Rattle.bridge_world.specs.declared.editors.Frame.{Frame}
+use Rattle.bridge_world.specs.Counted.{base_of, down_of, new_frame, Held, Frame}
 use Rattle.bridge_world.specs.Lists.{Each, unless}
-use Rattle.bridge_world.specs.declared.marks.Kind.{Kind}
-use Rattle.bridge_world.specs.declared.marks.Kind.TheVariants.{OpenDone, Done, Failed, New, Old}
 use Rattle.bridge_world.specs.Tie.{place, delta_if_new, new_deltas, Good}
 use Rattle.bridge_world.proofs.HeldLemmas.{with_push, base_of-push}
 use Rattle.bridge_world.proofs.ListLemmas.{each-append}
@@ -110,13 +106,13 @@ written_push uri text ids (f ∷ wire) (k ∷ ms) t r d m said h w = (
 -- ---- the editor
 
 -- what an editor becomes that is sent these messages, with these links open
-record Becomes (uri path : List ℕ) (x : Seat) (links : Links) (ns : List ToEditor) (e : bridged.Editor) : Type 0 where
+record Becomes (uri path : List ℕ) (x : Seat) (links : Links) (ns : List ToEditor) (e : N.Editor) : Type 0 where
   tied : IsTied uri (record x { down = x.down ++ map frame_of ns }) e
   link : link_at links path ≡ option_map link_held e.link
   others : (q : List ℕ) → (q ≡ path → ⊥) → link_at links q ≡ None
 
 -- nothing
-becomes_same : (uri path : List ℕ) (x : Seat) (links : Links) (e : bridged.Editor) → IsTied uri x e → link_at links path ≡ option_map link_held e.link
+becomes_same : (uri path : List ℕ) (x : Seat) (links : Links) (e : N.Editor) → IsTied uri x e → link_at links path ≡ option_map link_held e.link
     → ((q : List ℕ) → (q ≡ path → ⊥) → link_at links q ≡ None) → Becomes uri path x links [] e
 becomes_same uri path x links e tied link others = record {
   tied = subst (λ l. IsTied uri (record x { down = l }) e) (sym (append-nil x.down)) tied;
@@ -125,12 +121,12 @@ becomes_same uri path x links e tied link others = record {
 }
 
 -- a delta that its link gets
-becomes_pushed : (uri path view : List ℕ) (x : Seat) (links : Links) (d : Cells) (q : Held) (e : bridged.Editor) → let c : bridged.Editor = record e { link = Some q } in Good view c → IsTied uri x c
+becomes_pushed : (uri path view : List ℕ) (x : Seat) (links : Links) (d : Cells) (q : Held) (e : N.Editor) → let c : N.Editor = record e { link = Some q } in Good view c → IsTied uri x c
     → IsNormal d → link_at links path ≡ Some q.link → ((y : List ℕ) → (y ≡ path → ⊥) → link_at links y ≡ None)
     → let m : ToEditor = Edit uri q.link.taken (edits_of (daemon_text q.link) d) in Each CanBeSent (m ∷ [])
     → Becomes uri path x (at_path path (with_pushed d) links) (m ∷ []) (N.pushed d c)
 becomes_pushed uri path view x links d q e good tied normal link others fits =
-    let c : bridged.Editor = record e { link = Some q } in
+    let c : N.Editor = record e { link = Some q } in
     let m : ToEditor = Edit uri q.link.taken (edits_of (daemon_text q.link) d) in
     let y : Held = with_push d q in
     let h = tied.tied in
@@ -175,17 +171,17 @@ becomes_pushed uri path view x links d q e good tied normal link others fits =
     }
 
 -- an effect on its own file
-becomes_told : (uri path view : List ℕ) (base : BaseView) (x : Seat) (links : Links) (d : Cells) (link : Option Held) (e : bridged.Editor) → let c : bridged.Editor = record e { link = link } in
+becomes_told : (uri path view : List ℕ) (base : BaseView) (x : Seat) (links : Links) (d : Cells) (link : Option Held) (e : N.Editor) → let c : N.Editor = record e { link = link } in
     uri_of base path ≡ uri → Good view c → IsTied uri x c → IsNormal d → changes_nothing d ≡ false → link_at links path ≡ option_map link_held link
     → ((y : List ℕ) → (y ≡ path → ⊥) → link_at links y ≡ None)
     → let ns : List ToEditor = of_link (option_map link_held link) (told_messages base (record { path = path; delta = d })) in Each CanBeSent ns
     → Becomes uri path x (at_path path (with_pushed d) links) ns (N.told d c)
 becomes_told uri path view base x links d None e uri_is good tied normal some is others fits =
-    let c : bridged.Editor = record e { link = None } in
+    let c : N.Editor = record e { link = None } in
     subst (λ b. Becomes uri path x (at_path path (with_pushed d) links) [] (unless b (N.pushed d) c)) (sym some)
     (becomes_same uri path x (at_path path (with_pushed d) links) c tied (changed_none path (with_pushed d) links path is) (λ y apart. changed_none path (with_pushed d) links y (others y apart)))
 becomes_told uri path view base x links d (Some q) e uri_is good tied normal some is others fits =
-    let c : bridged.Editor = record e { link = Some q } in
+    let c : N.Editor = record e { link = Some q } in
     let told : List ToEditor = Edit (uri_of base path) q.link.taken (edits_of (daemon_text q.link) d) ∷ [] in
     let right : Edit (uri_of base path) q.link.taken (edits_of (daemon_text q.link) d) ∷ [] ≡ Edit uri q.link.taken (edits_of (daemon_text q.link) d) ∷ [] =
     ap (λ u. Edit u q.link.taken (edits_of (daemon_text q.link) d) ∷ []) uri_is in
@@ -202,7 +198,7 @@ kept_at q f links path apart =
       same (Some l) = refl
 
 -- an effect on any file
-becomes_effect : (uri path view : List ℕ) (base : BaseView) (x : Seat) (links : Links) (q : List ℕ) (d : Cells) (e : bridged.Editor) → uri_of base path ≡ uri → Good view e → IsTied uri x e
+becomes_effect : (uri path view : List ℕ) (base : BaseView) (x : Seat) (links : Links) (q : List ℕ) (d : Cells) (e : N.Editor) → uri_of base path ≡ uri → Good view e → IsTied uri x e
     → IsNormal d → changes_nothing d ≡ false → link_at links path ≡ option_map link_held e.link → ((y : List ℕ) → (y ≡ path → ⊥) → link_at links y ≡ None)
     → let ns : List ToEditor = of_link (link_at links q) (told_messages base (record { path = q; delta = d })) in Each CanBeSent ns
     → Becomes uri path x (at_path q (with_pushed d) links) ns (if is_path q path then N.told d e else e)
@@ -230,7 +226,7 @@ becomes_effect uri path view base x links q d e uri_is good tied normal some is 
         never same = let both : true ≡ false = sym (is_path_itself path) ∙ ap (λ p. is_path p path) (sym same) ∙ other in cc
 
 -- one change at most
-becomes_changed : (uri path view : List ℕ) (base : BaseView) (x : Seat) (links : Links) (q : List ℕ) (d : Cells) (e : bridged.Editor) → uri_of base path ≡ uri → Good view e → IsTied uri x e
+becomes_changed : (uri path view : List ℕ) (base : BaseView) (x : Seat) (links : Links) (q : List ℕ) (d : Cells) (e : N.Editor) → uri_of base path ≡ uri → Good view e → IsTied uri x e
     → IsNormal d → link_at links path ≡ option_map link_held e.link → ((y : List ℕ) → (y ≡ path → ⊥) → link_at links y ≡ None) → (b : Bool) → changes_nothing d ≡ b
     → let effects : List Effect = if b then [] else record { path = q; delta = d } ∷ [] in Each CanBeSent (others_messages base effects links)
     → Becomes uri path x (told_links effects links) (others_messages base effects links) (told_in_turn path effects e)
@@ -241,7 +237,7 @@ becomes_changed uri path view base x links q d e uri_is good tied normal is othe
     subst (λ ns. Becomes uri path x (at_path q (with_pushed d) links) ns (if is_path q path then N.told d e else e)) (sym alone)
     (becomes_effect uri path view base x links q d e uri_is good tied normal some is others (subst (Each CanBeSent) alone fits))
 
-pub tellings_are_alike : (uri path view : List ℕ) (s : State) (n k : ℕ) (id : Option MessageId) (o : Outcome) (x : Seat) (e : bridged.Editor) → Good view e → IsTied uri x e → (at : IsAt s k path e)
+pub tellings_are_alike : (uri path view : List ℕ) (s : State) (n k : ℕ) (id : Option MessageId) (o : Outcome) (x : Seat) (e : N.Editor) → Good view e → IsTied uri x e → (at : IsAt s k path e)
     → uri_of s.base path ≡ uri → is_number n k ≡ false → IsOneChange s o → Each CanBeSent (others_messages s.base o.effects at.links)
     → TellsAlike uri path s n k id o x e
 tellings_are_alike uri path view s n k id o x e good tied at uri_is apart change fits =

@@ -7,7 +7,6 @@ use Rattle.file_uri.specs.UriOf.{uri_of}
 use Rattle.tt_base.specs.Path.{path_fault}
 use Rattle.text_position.specs.Changes.{Change, edit_for}
 use Rattle.text_position.specs.Edits.{delta_of_edits}
-use Rattle.bridge_world.specs.declared.editors.Editor as bridged
 use Rattle.bridge_world.specs.Counted as N
 use Rattle.bridge_world.specs.Lists.{Each}
 use Rattle.bridge_world.specs.Room.{new_counted}
@@ -72,11 +71,11 @@ ChangesAreRead =
 pub record OwnSteps (base : BaseView) (path uri view : List ℕ) : Type 0 where
   pub begins : (text : List ℕ) → IsClientOf base path (new_editor uri text)
       → IsTied uri (opened (record { client = new_editor uri text; up = []; down = [] })) (N.opened (new_counted text))
-  pub types : (change : Change) (x : Seat) (e : bridged.Editor) → IsClientOf base path x.client → IsChangeOf x.client change → Good view e → IsTied uri x e
+  pub types : (change : Change) (x : Seat) (e : N.Editor) → IsClientOf base path x.client → IsChangeOf x.client change → Good view e → IsTied uri x e
       → IsTied uri (typed change x) (N.typed (delta_of change x.client.text) e)
-  pub opens : (x : Seat) (e : bridged.Editor) → IsClientOf base path x.client → IsTied uri x e → IsTied uri (opened x) (N.opened e)
-  pub closes : (x : Seat) (e : bridged.Editor) → IsClientOf base path x.client → IsTied uri x e → IsTied uri (closed x) (N.closed e)
-  pub loses : (x : Seat) (e : bridged.Editor) → IsTied uri x e → IsTied uri (lost x) (N.lost e)
+  pub opens : (x : Seat) (e : N.Editor) → IsClientOf base path x.client → IsTied uri x e → IsTied uri (opened x) (N.opened e)
+  pub closes : (x : Seat) (e : N.Editor) → IsClientOf base path x.client → IsTied uri x e → IsTied uri (closed x) (N.closed e)
+  pub loses : (x : Seat) (e : N.Editor) → IsTied uri x e → IsTied uri (lost x) (N.lost e)
 
 abbrev pub OwnStepsAreAlike : Type 0
 OwnStepsAreAlike = (base : BaseView) (path uri view : List ℕ) → OwnSteps base path uri view
@@ -86,14 +85,14 @@ OwnStepsAreAlike = (base : BaseView) (path uri view : List ℕ) → OwnSteps bas
 -- the daemon comes to the outcome of the plain machine, where each message that it then sends on the connection can be sent
 abbrev pub HandlingsAreAlike : Type 0
 HandlingsAreAlike =
-    (uri path body : List ℕ) (up : List (List ℕ)) (s : State) (n : ℕ) (x : Seat) (e : bridged.Editor) → Good (text_at s.history path) e → IsTied uri x e
+    (uri path body : List ℕ) (up : List (List ℕ)) (s : State) (n : ℕ) (x : Seat) (e : N.Editor) → Good (text_at s.history path) e → IsTied uri x e
     → IsAt s n path e → path_of s.base uri ≡ Ok path → uri_of s.base path ≡ uri → x.up ≡ body ∷ up → Each CanBeSent (answer_messages s n body)
     → HandlesAlike uri s n path body up x e
 
 -- What the other editors of a daemon are told, each on a connection of its own, where each message that it is sent can be sent.
 abbrev pub TellingsAreAlike : Type 0
 TellingsAreAlike =
-    (uri path view : List ℕ) (s : State) (n k : ℕ) (id : Option MessageId) (o : Outcome) (x : Seat) (e : bridged.Editor) → Good view e → IsTied uri x e
+    (uri path view : List ℕ) (s : State) (n k : ℕ) (id : Option MessageId) (o : Outcome) (x : Seat) (e : N.Editor) → Good view e → IsTied uri x e
     → (at : IsAt s k path e) → uri_of s.base path ≡ uri → is_number n k ≡ false → IsOneChange s o
     → Each CanBeSent (others_messages s.base o.effects at.links) → TellsAlike uri path s n k id o x e
 
@@ -103,16 +102,16 @@ OutcomesAreOneChange = (s : State) (n : ℕ) (read : Result Incoming MessageFaul
 
 -- connections of editors begin and end beside each other
 abbrev pub ConnectionsAreApart : Type 0
-ConnectionsAreApart = (s : State) (n : ℕ) (path : List ℕ) (e : bridged.Editor) → Connections s n path e
+ConnectionsAreApart = (s : State) (n : ℕ) (path : List ℕ) (e : N.Editor) → Connections s n path e
 
 -- What the client makes of what the daemon writes.
 
 -- the first frame comes to both, and the same line is printed, if any
-pub record DoesAlike (uri : List ℕ) (n : ℕ) (note : HeardNote) (after : Seat) (e : bridged.Editor) : Type 0 where
+pub record DoesAlike (uri : List ℕ) (n : ℕ) (note : HeardNote) (after : Seat) (e : N.Editor) : Type 0 where
   pub tied : IsTied uri after (N.delivered e)
   pub printed : note_line n note ≡ first_line n (N.marks e.wire)
 
 abbrev pub DeliveriesAreAlike : Type 0
 DeliveriesAreAlike =
-    (uri view : List ℕ) (n : ℕ) (before after : Seat) (note : HeardNote) (e : bridged.Editor) → Good view e → IsTied uri before e
+    (uri view : List ℕ) (n : ℕ) (before after : Seat) (note : HeardNote) (e : N.Editor) → Good view e → IsTied uri before e
     → IsDelivered before note after → DoesAlike uri n note after e

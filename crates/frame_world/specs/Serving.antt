@@ -1,9 +1,8 @@
 -- What a daemon that a program keeps makes of the first body under way from an editor.
 use Rattle.std.specs.Prelude.{◌≡◌, ◌⊎◌, ℕ, List, [], ◌∷◌, ◌++◌, flat_map, Option, None, if◌then◌else◌, false}
 use Rattle.std.specs.Option.{option_map}
-use Rattle.bridge_world.specs.declared.editors.Editor as bridged
+use Rattle.bridge_world.specs.Counted.{Held}
 use Rattle.bridge_world.specs.Counted as N
-use Rattle.bridge_world.specs.declared.editors.Held.{Held}
 use Rattle.editor_bridge.specs.Link.{Link}
 use Rattle.bridge_world.specs.Lists.{Each}
 use Rattle.rpc_message.specs.Messages.{message_of}
@@ -50,7 +49,7 @@ HasOnce k links (c ∷ connections) =
     ((c ≡ (k, links)) × HasNone k connections) ⊎ ((is_number k c.0 ≡ false) × HasOnce k links connections)
 
 -- a daemon has a connection of a number, on which just the link of an editor is open, at a path
-pub record IsAt (s : State) (n : ℕ) (path : List ℕ) (e : bridged.Editor) : Type 0 where
+pub record IsAt (s : State) (n : ℕ) (path : List ℕ) (e : N.Editor) : Type 0 where
   pub links : Links
   pub once : HasOnce n links s.connections
   pub link : link_at links path ≡ option_map link_held e.link
@@ -63,16 +62,16 @@ answer_messages s n body =
     let o = outcome_of s n read in reply (id_of read) o.answer ++ own_messages s.base o.own (links_of s n)
 
 -- the step to which an editor's first message comes in the plain machine
-abbrev pub plain_step_of : State → List ℕ → bridged.Editor → Step Outcome
+abbrev pub plain_step_of : State → List ℕ → N.Editor → Step Outcome
 plain_step_of s path e = first_step s path (N.plain_of e).sent (N.plain_of e).link
 
 -- the editor that is left
-abbrev pub editor_after : State → List ℕ → bridged.Editor → bridged.Editor
+abbrev pub editor_after : State → List ℕ → N.Editor → N.Editor
 editor_after s path e =
     let step = plain_step_of s path e in N.handled (verdict_of step) (text_at (or_refusal s step).history path) e
 
 -- The daemon comes to the outcome of the plain machine, and the editor to what it comes to there.
-pub record HandlesAlike (uri : List ℕ) (s : State) (n : ℕ) (path body : List ℕ) (up : List (List ℕ)) (x : Seat) (e : bridged.Editor) : Type 0 where
+pub record HandlesAlike (uri : List ℕ) (s : State) (n : ℕ) (path body : List ℕ) (up : List (List ℕ)) (x : Seat) (e : N.Editor) : Type 0 where
   pub history : (outcome_of s n (message_of body)).history ≡ (or_refusal s (plain_step_of s path e)).history
   pub effects : (outcome_of s n (message_of body)).effects ≡ (or_refusal s (plain_step_of s path e)).effects
   pub goes_on : (outcome_of s n (message_of body)).shuts_down ≡ false
@@ -82,7 +81,7 @@ pub record HandlesAlike (uri : List ℕ) (s : State) (n : ℕ) (path body : List
 -- What the other editors are told.
 
 -- an editor of the file at a path is told of effects in turn
-abbrev pub told_in_turn : List ℕ → List Effect → bridged.Editor → bridged.Editor
+abbrev pub told_in_turn : List ℕ → List Effect → N.Editor → N.Editor
 told_in_turn path [] e = e
 told_in_turn path (effect ∷ effects) e =
     told_in_turn path effects (if is_path effect.path path then N.told effect.delta e else e)
@@ -99,12 +98,12 @@ pub record IsOneChange (s : State) (o : Outcome) : Type 0 where
   pub normal : IsNormal delta
 
 -- an editor on connection k is told of a message on connection n as in the machine with counts
-pub record TellsAlike (uri path : List ℕ) (s : State) (n k : ℕ) (id : Option MessageId) (o : Outcome) (x : Seat) (e : bridged.Editor) : Type 0 where
+pub record TellsAlike (uri path : List ℕ) (s : State) (n k : ℕ) (id : Option MessageId) (o : Outcome) (x : Seat) (e : N.Editor) : Type 0 where
   pub tied : IsTied uri (received k (outputs s n id o) x) (told_in_turn path o.effects e)
   pub at : IsAt (state_after s n o) k path (told_in_turn path o.effects e)
 
 -- What an editor's connection is where connections begin and end: its own, and others beside it.
-pub record Connections (s : State) (n : ℕ) (path : List ℕ) (e : bridged.Editor) : Type 0 where
+pub record Connections (s : State) (n : ℕ) (path : List ℕ) (e : N.Editor) : Type 0 where
   pub begins : HasNone n s.connections → e.link ≡ None → IsAt (serve s (EditorBegan n)).state n path e
   pub another_begins : (k : ℕ) → is_number n k ≡ false → IsAt s n path e → IsAt (serve s (EditorBegan k)).state n path e
   pub another_ends : (k : ℕ) → is_number k n ≡ false → IsAt s n path e → IsAt (serve s (Ended k)).state n path e

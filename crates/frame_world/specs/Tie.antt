@@ -5,19 +5,10 @@ use Rattle.delta.specs.Cells.{Cells, applied, IsNormal}
 use Rattle.text_position.specs.Changes.{edits_of}
 use Rattle.text_position.specs.Edits.{delta_of_edits}
 use Rattle.tt_base.specs.declared.edits.TextEdit.{TextEdit}
-use Rattle.bridge_world.specs.declared.editors.Editor as bridged
-use Rattle.bridge_world.specs.declared.editors.Frame as counted_frame
-use Rattle.bridge_world.specs.declared.editors.Message as counted_message
-use Rattle.bridge_world.specs.declared.editors.Message.TheVariants as counted
-use Rattle.bridge_world.specs.declared.editors.Sent as counted_sent
-use Rattle.bridge_world.specs.Counted.{base_of}
-use Rattle.bridge_world.specs.declared.editors.Held.{Held}
+use Rattle.bridge_world.specs.Plain.{State, Kind, Cause, Opening, Open, Closed, OpenDone, Done, Failed, New, Old}
+use Rattle.bridge_world.specs.Counted as N
+use Rattle.bridge_world.specs.Counted.{base_of, Held}
 use Rattle.bridge_world.specs.Lists.{Each}
-use Rattle.bridge_world.specs.declared.marks.State.{State}
-use Rattle.bridge_world.specs.declared.marks.Kind.{Kind}
-use Rattle.bridge_world.specs.declared.marks.Cause.{Cause}
-use Rattle.bridge_world.specs.declared.marks.State.TheVariants.{Opening, Open, Closed}
-use Rattle.bridge_world.specs.declared.marks.Kind.TheVariants.{OpenDone, Done, Failed, New, Old}
 use Rattle.bridge_world.specs.Tie.{Stand, Place, place, after}
 use Rattle.rpc_frame.specs.Written.{frame_bytes}
 use Rattle.rpc_message.specs.Messages.{message_of}
@@ -59,22 +50,22 @@ abbrev pub ReadsAs : Cells → List TextEdit → Place → Type 0
 ReadsAs p edits a = (there : Stand) → a.stand ≡ Some there → delta_of_edits there.text edits ≡ Ok p
 
 -- what a message asks, with the id that it has, where the link has come to a place
-abbrev pub Asks : List ℕ → Ids → counted_message.Message → ℕ → ℕ → Place → FromEditor → Type 0
-Asks uri ids (counted.Opens content) session id a asked = (asked ≡ asks.Open uri content) × IsOf ids session id (id ≡ ids.opening)
-Asks uri ids (counted.Edits seen p) session id a asked =
+abbrev pub Asks : List ℕ → Ids → N.Message → ℕ → ℕ → Place → FromEditor → Type 0
+Asks uri ids (N.Opens content) session id a asked = (asked ≡ asks.Open uri content) × IsOf ids session id (id ≡ ids.opening)
+Asks uri ids (N.Edits seen p) session id a asked =
     (edits : List TextEdit)
     × ((asked ≡ asks.Edit uri seen edits) × (IsNormal p × (ReadsAs p edits a × IsOf ids session id (ids.opening < id))))
-Asks uri ids counted.Closes session id a asked = (asked ≡ asks.Close uri) × IsOf ids session id (ids.opening < id)
+Asks uri ids N.Closes session id a asked = (asked ≡ asks.Close uri) × IsOf ids session id (ids.opening < id)
 
 -- a body is that message
-pub record IsBody (uri : List ℕ) (ids : Ids) (a : Place) (m : counted_sent.Sent) (body : List ℕ) : Type 0 where
+pub record IsBody (uri : List ℕ) (ids : Ids) (a : Place) (m : N.Sent) (body : List ℕ) : Type 0 where
   pub id : ℕ
   pub asked : FromEditor
   pub read : message_of body ≡ Ok (record { id = Some (Number id); message = asked })
   pub says : Asks uri ids m.message m.session id a asked
 
 -- bodies are these messages, the first at a place and each at the one that those before lead to
-abbrev pub AreBodies : List ℕ → Ids → Place → List counted_sent.Sent → List (List ℕ) → Type 0
+abbrev pub AreBodies : List ℕ → Ids → Place → List N.Sent → List (List ℕ) → Type 0
 AreBodies uri ids a [] [] = Unit {0}
 AreBodies uri ids a (m ∷ sent) (body ∷ up) = IsBody uri ids a m body × AreBodies uri ids (after m a) sent up
 AreBodies uri ids a [] (body ∷ up) = ⊥
@@ -109,7 +100,7 @@ Says uri ids New session revision message = (edits : List TextEdit) × (message 
 Says uri ids Old session revision message = (edits : List TextEdit) × (message ≡ Edit uri revision edits)
 
 -- messages are these frames
-abbrev pub AreSaid : List ℕ → Ids → List counted_frame.Frame → List ToEditor → Type 0
+abbrev pub AreSaid : List ℕ → Ids → List N.Frame → List ToEditor → Type 0
 AreSaid uri ids [] [] = Unit {0}
 AreSaid uri ids (f ∷ wire) (m ∷ messages) =
     Says uri ids f.mark.kind f.mark.session f.revision m × AreSaid uri ids wire messages
@@ -131,7 +122,7 @@ WrittenIfNew New uri text revision d message = IsWritten uri text revision d mes
 WrittenIfNew kind uri text revision d message = Unit {0}
 
 -- each of what is to be shown is written on the text that those before it leave
-abbrev pub AreWritten : List ℕ → List ℕ → List counted_frame.Frame → List ToEditor → Type 0
+abbrev pub AreWritten : List ℕ → List ℕ → List N.Frame → List ToEditor → Type 0
 AreWritten uri text [] [] = Unit {0}
 AreWritten uri text (f ∷ wire) (m ∷ messages) =
     WrittenIfNew f.mark.kind uri text f.revision f.delta m
@@ -140,7 +131,7 @@ AreWritten uri text [] (m ∷ messages) = ⊥
 AreWritten uri text (f ∷ wire) [] = ⊥
 
 -- The tie, beside `Good`, with the messages whose frames are under way to the editor.
-pub record IsTiedWith (messages : List ToEditor) (uri : List ℕ) (x : Seat) (e : bridged.Editor) : Type 0 where
+pub record IsTiedWith (messages : List ToEditor) (uri : List ℕ) (x : Seat) (e : N.Editor) : Type 0 where
   pub uri_is : x.client.uri ≡ uri
   pub text : x.client.text ≡ e.text
   pub state : state_of x.client.state ≡ e.state
@@ -159,6 +150,6 @@ pub record IsTiedWith (messages : List ToEditor) (uri : List ℕ) (x : Seat) (e 
   -- where nothing is under way to the daemon
   pub written : e.sent ≡ [] → (h : Held) → e.link ≡ Some h → AreWritten uri (base_of h) e.wire messages
 
-pub record IsTied (uri : List ℕ) (x : Seat) (e : bridged.Editor) : Type 0 where
+pub record IsTied (uri : List ℕ) (x : Seat) (e : N.Editor) : Type 0 where
   pub messages : List ToEditor
   pub tied : IsTiedWith messages uri x e

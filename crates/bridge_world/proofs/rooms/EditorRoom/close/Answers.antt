@@ -12,7 +12,7 @@ made c =
     let look = c.in-Some.ensures.lookup in
     let found : slice_get c.self.inside.editors.items c.args.n ≡ Some c.in-Some.editor.now =
     ap (λ xs. slice_get xs c.args.n) (sym c.deref.ensures.value) ∙ got c.deref.result.now c.args.n c.in-Some.editor.now look.3.0 look.1 in
-    stepped (Closes c.args.n) _ _ c.self.invariant (own_moved (λ (x : Editor). not (is_closed x.state)) counted.closed c.args.n _ c.in-Some.editor.now _ found (ap not (sym c.is_closed.ensures ∙ c.if-is_closed.false)) c.in_ok-close_at.ensures.ok)
+    stepped (Closes c.args.n) _ _ c.self.invariant (own_moved (λ (x : Editor). not (is_closed x.state)) counted.closed c.args.n _ c.in-Some.editor.now _ found (ap (λ (x : Editor). not (is_closed x.state)) (sym c.editor.view_is) ∙ ap not (sym c.is_closed.ensures ∙ c.if-is_closed.false)) c.in_ok-close_at.ensures.ok)
 
 pub invariant_of-self-2 : goal.invariant_of-self-2
 invariant_of-self-2 c = (made c).good

@@ -13,8 +13,9 @@ made c =
     let look = c.in-Some.ensures.lookup in
     let found : slice_get c.self.inside.editors.items c.args.n ≡ Some c.in-Some.editor.now =
     ap (λ xs. slice_get xs c.args.n) (sym c.deref.ensures.value) ∙ got c.deref.result.now c.args.n c.in-Some.editor.now look.3.0 look.1 in
-    let yes : c.is_closed.result ≡ true = c.if-not-is_closed.false in
-    stepped (Opens c.args.n) _ _ c.self.invariant (own_moved (λ (x : Editor). is_closed x.state) counted.opened c.args.n _ c.in-Some.editor.now _ found (sym c.is_closed.ensures ∙ yes) c.in_ok-open_at.ensures.ok)
+    let yes : is_closed c.in-Some.editor.now.state ≡ true =
+    ap (λ (x : Editor). is_closed x.state) (sym c.editor.view_is) ∙ sym c.is_closed.ensures ∙ c.if-not-is_closed.false in
+    stepped (Opens c.args.n) _ _ c.self.invariant (own_moved (λ (x : Editor). is_closed x.state) counted.opened c.args.n _ c.in-Some.editor.now _ found yes c.in_ok-open_at.ensures.ok)
 
 pub invariant_of-self-2 : goal.invariant_of-self-2
 invariant_of-self-2 c = (made c).good
@@ -33,7 +34,8 @@ returns-in_err-open_at-clause-fault c =
     let look = c.in-Some.ensures.lookup in
     let found : slice_get c.self.inside.editors.items c.args.n ≡ Some c.in-Some.editor.now =
     ap (λ xs. slice_get xs c.args.n) (sym c.deref.ensures.value) ∙ got c.deref.result.now c.args.n c.in-Some.editor.now look.3.0 look.1 in
-    let yes : c.is_closed.result ≡ true = c.if-not-is_closed.false in
+    let yes : is_closed c.in-Some.editor.now.state ≡ true =
+    ap (λ (x : Editor). is_closed x.state) (sym c.editor.view_is) ∙ sym c.is_closed.ensures ∙ c.if-not-is_closed.false in
     memory_named c.from_residual.result _
-    (faultless (λ (e : Editor). open_fault (is_closed e.state)) c.args.n (record { view = c.self.inside.view; editors = c.self.inside.editors.items }) c.args.self.now c.in-Some.editor.now c.self.view_is found (ap open_fault (sym c.is_closed.ensures ∙ yes)))
+    (faultless (λ (e : Editor). open_fault (is_closed e.state)) c.args.n (record { view = c.self.inside.view; editors = c.self.inside.editors.items }) c.args.self.now c.in-Some.editor.now c.self.view_is found (ap open_fault yes))
     c.from_residual.ensures.1

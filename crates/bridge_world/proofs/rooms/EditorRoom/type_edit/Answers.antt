@@ -15,7 +15,7 @@ made c =
     let look = c.in-Some.ensures.lookup in
     let found : slice_get c.self.inside.editors.items c.args.n ≡ Some c.in-Some.editor.now =
     ap (λ xs. slice_get xs c.args.n) (sym c.deref.ensures.value) ∙ got c.deref.result.now c.args.n c.in-Some.editor.now look.3.0 look.1 in
-    stepped (Types c.args.n c.args.p.now) _ _ c.self.invariant (own_moved (λ (x : Editor). base_length c.args.p.now == length x.text) (counted.typed c.args.p.now) c.args.n _ c.in-Some.editor.now _ found (eq-eqb _ _ (sym c.base_length.ensures ∙ c.if-base_length-len.false ∙ c.len-2.ensures)) c.in_ok-type_at.ensures.ok)
+    stepped (Types c.args.n c.args.p.now) _ _ c.self.invariant (own_moved (λ (x : Editor). base_length c.args.p.now == length x.text) (counted.typed c.args.p.now) c.args.n _ c.in-Some.editor.now _ found (eq-eqb _ _ (sym c.base_length.ensures ∙ c.if-base_length-len.false ∙ c.len-2.ensures ∙ ap (λ (x : Editor). length x.text) c.editor.view_is)) c.in_ok-type_at.ensures.ok)
 
 pub invariant_of-self-2 : goal.invariant_of-self-2
 invariant_of-self-2 c = (made c).good
@@ -36,5 +36,5 @@ returns-in_err-type_at-clause-fault c =
     ap (λ xs. slice_get xs c.args.n) (sym c.deref.ensures.value) ∙ got c.deref.result.now c.args.n c.in-Some.editor.now look.3.0 look.1 in
     memory_named c.from_residual.result _
     (faultless (λ (e : Editor). length_fault c.args.p.now e.text) c.args.n (record { view = c.self.inside.view; editors = c.self.inside.editors.items }) c.args.self.now c.in-Some.editor.now c.self.view_is found
-    (fits_length c.args.p.now c.in-Some.editor.now.text (sym c.base_length.ensures ∙ c.if-base_length-len.false ∙ c.len-2.ensures)))
+    (fits_length c.args.p.now c.in-Some.editor.now.text (sym c.base_length.ensures ∙ c.if-base_length-len.false ∙ c.len-2.ensures ∙ ap (λ (x : Editor). length x.text) c.editor.view_is)))
     c.from_residual.ensures.1
