@@ -97,7 +97,7 @@ pub put_history : (nodes grown : NodesView) (name : Name) (change : Change) (dep
 put_history nodes grown name change depth named is =
     ap (λ (v : NodesView). v.history) is ∙ ap (λ (n : Name). insert_entry name_cmp nodes.history n change) named
 
-growth : (nodes grown : NodesView) (name : Name) (change : Change) (depth : ℕ) → IsNext nodes.history change → name ≡ name_of change
+pub growth : (nodes grown : NodesView) (name : Name) (change : Change) (depth : ℕ) → IsNext nodes.history change → name ≡ name_of change
     → depth ≡ greatest (map (depth_in nodes.depths) change.deps) + 1
     → grown ≡ record { history = insert_entry name_cmp nodes.history name change; depths = insert_entry name_cmp nodes.depths name depth }
     → IsGrown nodes grown name change depth

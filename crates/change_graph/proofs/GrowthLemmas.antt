@@ -42,13 +42,13 @@ greatest_le depth bound each (n ∷ ns) =
     let rest : greatest (map depth ns) ≤ bound = greatest_le depth bound each ns in
     omega (arith, one, rest)
 
-map_same : (f g : Name → ℕ) (names : List Name) → ((name : Name) → has_name names name ≡ true → f name ≡ g name) → map f names ≡ map g names
+pub map_same : (f g : Name → ℕ) (names : List Name) → ((name : Name) → has_name names name ≡ true → f name ≡ g name) → map f names ≡ map g names
 map_same f g [] each = refl
 map_same f g (n ∷ ns) each = λ i.
     each n (or_left (is_name n n) (has_name ns n) (name_itself n)) i
     ∷ map_same f g ns (λ name has. each name (or_right (is_name name n) (has_name ns name) has)) i
 
-cond_same : {X : Type 0} (b : Bool) (x y z : X) → (b ≡ true → x ≡ y) → cond b x z ≡ cond b y z
+pub cond_same : {X : Type 0} (b : Bool) (x y z : X) → (b ≡ true → x ≡ y) → cond b x z ≡ cond b y z
 cond_same true x y z same = same refl
 cond_same false x y z same = refl
 
@@ -111,11 +111,11 @@ module _ (nodes grown : NodesView) (name : Name) (change : Change) (depth : ℕ)
 
   -- ---- depths
 
-  old_depth : (q : Name) → is_name name q ≡ false → depth_in grown.depths q ≡ depth_in nodes.depths q
+  pub old_depth : (q : Name) → is_name name q ≡ false → depth_in grown.depths q ≡ depth_in nodes.depths q
   old_depth q apart =
       ap (λ (o : Option ℕ). unwrap_or o 0) (is.depths q ∙ cond-false (is_name name q) (Some depth) (lookup (is_name q) nodes.depths) apart)
 
-  new_depth : (q : Name) → is_name name q ≡ true → depth_in grown.depths q ≡ depth
+  pub new_depth : (q : Name) → is_name name q ≡ true → depth_in grown.depths q ≡ depth
   new_depth q same =
       ap (λ (o : Option ℕ). unwrap_or o 0) (is.depths q ∙ cond-true (is_name name q) (Some depth) (lookup (is_name q) nodes.depths) same)
 

@@ -1,14 +1,14 @@
 mod NodeLemmas
-mod OrderLemmas
-mod ReachedLemmas
+pub mod OrderLemmas
+pub mod ReachedLemmas
 mod PlaceLemmas
 mod WalkLemmas
 mod WorkLemmas
 mod RunLemmas
 mod StartLemmas
 mod SurveyLemmas
-mod InsertLemmas
-mod GrowthLemmas
+pub mod InsertLemmas
+pub mod GrowthLemmas
 mod HeadLemmas
-mod GraphLemmas
+pub mod GraphLemmas
 mod AnswerLemmas

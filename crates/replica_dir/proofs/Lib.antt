@@ -1,4 +1,4 @@
 pub mod IdLemmas
-mod GreatestLemmas
+pub mod GreatestLemmas
 mod MakeLemmas
-mod WinnerLemmas
+pub mod WinnerLemmas

@@ -1,22 +1,22 @@
 pub mod OrderLemmas
-mod MemberLemmas
-mod SkipLemmas
-mod GrowsLemmas
-mod EffectLemmas
-mod RunLemmas
-mod JoinLemmas
-mod PlaceLemmas
-mod OpsLemmas
+pub mod MemberLemmas
+pub mod SkipLemmas
+pub mod GrowsLemmas
+pub mod EffectLemmas
+pub mod RunLemmas
+pub mod JoinLemmas
+pub mod PlaceLemmas
+pub mod OpsLemmas
 mod GapLemmas
-mod TextLemmas
+pub mod TextLemmas
 mod CutLemmas
-mod LeadLemmas
+pub mod LeadLemmas
 mod OrderOfArrival
 mod MadeLemmas
-mod MadeWalks
-mod MadeEffects
-mod MadeMay
-mod AnyOrder
+pub mod MadeWalks
+pub mod MadeEffects
+pub mod MadeMay
+pub mod AnyOrder
 mod EdgeLemmas
 mod FixedLemmas
 mod TestLemmas

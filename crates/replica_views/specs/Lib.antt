@@ -1,0 +1,7 @@
+pub mod Ids
+pub mod Objects
+pub mod Texts
+pub mod Views
+pub mod Effects
+pub mod Made
+pub mod Growth
