@@ -9,6 +9,6 @@ mod StartLemmas
 mod SurveyLemmas
 pub mod InsertLemmas
 pub mod GrowthLemmas
-mod HeadLemmas
+pub mod HeadLemmas
 pub mod GraphLemmas
 mod AnswerLemmas

@@ -97,7 +97,7 @@ later_less id index lt =
     subst (λ (i : ℕ). less id (record id { index = i }) ≡ true) (let e : id.index + suc (index - id.index - 1) ≡ index = omega (arith, lt) in e)
     (less_shifted id (index - id.index - 1))
 
-deeper_less : (a b : ElemId) → a.depth < b.depth → less a b ≡ true
+pub deeper_less : (a b : ElemId) → a.depth < b.depth → less a b ≡ true
 deeper_less a b lt =
     less_is a b
     ∙ ap (λ (r : Ordering). is_lt (ordering_then r (ordering_then (actor_cmp a.actor b.actor) (ordering_then (name_cmp a.name b.name) (nat_cmp a.index b.index)))))

@@ -81,7 +81,7 @@ some_either : {X : Type 0} (b : Bool) (x : X) (o : Option X) → is_some o ≡ t
 some_either true x o some = refl
 some_either false x o some = some
 
-all_more : {X : Type 0} (P Q : X → Type 0) (xs : List X) → ((x : X) → P x → Q x) → AllByRecursion P xs → AllByRecursion Q xs
+pub all_more : {X : Type 0} (P Q : X → Type 0) (xs : List X) → ((x : X) → P x → Q x) → AllByRecursion P xs → AllByRecursion Q xs
 all_more P Q [] each all = tt
 all_more P Q (x ∷ xs) each all = (each x all.0, all_more P Q xs each all.1)
 

@@ -7,3 +7,10 @@ pub mod CoverLemmas
 pub mod AcceptedLemmas
 pub mod StayLemmas
 pub mod StepLemmas
+pub mod TreeLemmas
+pub mod ViewLemmas
+pub mod HeadsLemmas
+pub mod WrittenLemmas
+pub mod HeldLemmas
+pub mod WinnerLemmas
+pub mod MadeLemmas

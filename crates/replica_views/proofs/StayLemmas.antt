@@ -119,7 +119,7 @@ all_put P x xs ys put own all =
     subst (AllByRecursion P) (sym put.with_it)
     (all-append P put.front (x ∷ put.behind) (all_front P put.front put.behind parts) (own, all_back P put.front put.behind parts))
 
-all_filter : {X : Type 0} (P : X → Type 0) (test : X → Bool) (xs : List X) → AllByRecursion P xs → AllByRecursion P (filter test xs)
+pub all_filter : {X : Type 0} (P : X → Type 0) (test : X → Bool) (xs : List X) → AllByRecursion P xs → AllByRecursion P (filter test xs)
 all_filter P test [] all = tt
 all_filter P test (x ∷ xs) all = by (all_filter P test xs all.1) (test x) where
   by : AllByRecursion P (filter test xs) → (b : Bool) → AllByRecursion P (cond b (x ∷ filter test xs) (filter test xs))

@@ -82,12 +82,12 @@ abbrev pub IsIn : {X : Type 0} → X → List X → Type 0
 IsIn x [] = ⊥
 IsIn x (y ∷ ys) = (y ≡ x) ⊎ IsIn x ys
 
-in_front : {X : Type 0} (x : X) (xs ys : List X) → IsIn x xs → IsIn x (xs ++ ys)
+pub in_front : {X : Type 0} (x : X) (xs ys : List X) → IsIn x xs → IsIn x (xs ++ ys)
 in_front x [] ys is = absurd is
 in_front x (y ∷ xs) ys (inl is) = inl is
 in_front x (y ∷ xs) ys (inr is) = inr (in_front x xs ys is)
 
-in_behind : {X : Type 0} (x : X) (xs ys : List X) → IsIn x ys → IsIn x (xs ++ ys)
+pub in_behind : {X : Type 0} (x : X) (xs ys : List X) → IsIn x ys → IsIn x (xs ++ ys)
 in_behind x [] ys is = is
 in_behind x (y ∷ xs) ys is = inr (in_behind x xs ys is)
 
@@ -100,7 +100,7 @@ in_filter test x (y ∷ xs) passes (inr is) = by (in_filter test x xs passes is)
   by rest true = inr rest
   by rest false = rest
 
-found_in : (es : History) (n : Name) (change : Change) → change_at es n ≡ Some change → IsIn (n, change) es
+pub found_in : (es : History) (n : Name) (change : Change) → change_at es n ≡ Some change → IsIn (n, change) es
 found_in [] n change is = cc
 found_in (e ∷ es) n change is = by (found_in es n change) (is_name n e.0) refl is where
   by : (change_at es n ≡ Some change → IsIn (n, change) es) → (b : Bool) → is_name n e.0 ≡ b → cond b (Some e.1) (change_at es n) ≡ Some change

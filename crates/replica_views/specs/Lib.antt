@@ -5,3 +5,4 @@ pub mod Views
 pub mod Effects
 pub mod Made
 pub mod Growth
+pub mod Laws

@@ -1,16 +1,24 @@
 //! What holds of the readings of a history. Each function has an empty body, and its contract is the law.
-ghost use Rattle.std.specs.Prelude.{◌≡◌, ℕ, List, []};
+ghost use Rattle.std.specs.Prelude.{◌≡◌, ℕ, List, [], length};
+ghost use Rattle.delta.specs.Cells.{Cells, applied, base_length, IsNormal};
+ghost use Rattle.tt_base.specs.Elements.{AreDistinct};
+ghost use Rattle.tt_base.specs.declared.ids.Actor.{Actor};
 ghost use Rattle.tt_base.specs.declared.ids.ElemId.{ElemId};
 ghost use Rattle.change_codec.specs.Change.{Change};
 ghost use Rattle.change_graph.specs.History.{History, name_of, with_change};
+ghost use Rattle.change_graph.specs.Answers.{IsHeads};
 ghost use Rattle.change_graph.specs.Depths.{IsDepths};
 ghost use Rattle.change_graph.specs.Histories.{IsHistory};
 ghost use Rattle.replica_text.specs.Ids.{is_known};
+ghost use Rattle.replica_text.specs.Tree.{IsTree};
 ghost use Rattle.replica_text.specs.Ops.{AllMayFollow, after_ops};
+ghost use Rattle.replica_views.specs.Effects.{effect_at};
 ghost use Rattle.replica_views.specs.Growth.{MayCome, IsGrown};
 ghost use Rattle.replica_views.specs.Ids.{depth_at};
-ghost use Rattle.replica_views.specs.Texts.{ops_on, text_ops, tree_of};
-ghost use Rattle.replica_views.specs.Views.{view_at};
+ghost use Rattle.replica_views.specs.Laws.{DoesOnly};
+ghost use Rattle.replica_views.specs.Made.{heads_of, made};
+ghost use Rattle.replica_views.specs.Texts.{ops_on, text_ops, tree_of, elements_of};
+ghost use Rattle.replica_views.specs.Views.{view_at, text_at};
 
 /// Equal histories have equal views of every path: a view is read off the changes alone, and not off the order in which they
 /// came.
@@ -18,10 +26,18 @@ pub fn equal_histories_have_equal_views()
     ensures { (one other : History) → one ≡ other → (path : List ℕ) → view_at one path ≡ view_at other path }
 {}
 
-/// A history to which changes came one by one is closed, without cycles and accepted, and its depths are those of its changes.
+/// A history to which changes came one by one is closed, without cycles and accepted; its depths and its heads are those of its
+/// changes.
 pub fn a_grown_history_is_one()
     ensures history { (history : History) → IsGrown history → IsHistory history }
     ensures depths { (history : History) → IsGrown history → IsDepths history (depth_at history) }
+    ensures heads { (history : History) → IsGrown history → IsHeads history (heads_of history) }
+{}
+
+/// The tree of each object is one: siblings fall, each id is greater than its parent's, and no two elements have one id.
+pub fn trees_of_a_history_are_trees()
+    ensures trees { (history : History) → IsGrown history → (object : ElemId) → IsTree (tree_of history object) }
+    ensures distinct { (history : History) → IsGrown history → (object : ElemId) → AreDistinct (elements_of history object) }
 {}
 
 /// The operations of a grown history on each object are possible, each behind the others by depth and name.
@@ -35,4 +51,16 @@ pub fn a_change_adds_what_it_does()
     ensures { (history : History) (change : Change) → IsGrown history → MayCome history change → (object : ElemId)
         → tree_of (with_change history change) object
         ≡ after_ops (text_ops (with_change history change) (name_of change) object 0 change.ops) (tree_of history object) }
+{}
+
+/// The effect of a change leads from the text at each path to that after it.
+pub fn an_effect_leads_to_the_next_text()
+    ensures { (history : History) (change : Change) → IsGrown history → MayCome history change → (path : List ℕ)
+        → applied (effect_at history (with_change history change) path) (text_at history path) ≡ text_at (with_change history change) path }
+{}
+
+/// A change that is made for a delta of the text at a path has just this delta as its effect there, and no other path has one.
+pub fn a_made_change_does_what_it_was_made_for()
+    ensures { (history : History) (actor : Actor) (path : List ℕ) (d : Cells) → IsGrown history → MayCome history (made history actor path d)
+        → base_length d ≡ length (text_at history path) → IsNormal d → DoesOnly history (made history actor path d) path d }
 {}
