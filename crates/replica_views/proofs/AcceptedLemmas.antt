@@ -114,7 +114,7 @@ module _ (g : History) (known : Name → Bool) where
   AreAccepted earlier [] = Unit {0}
   AreAccepted earlier (op ∷ ops) = (op_fault (within_of earlier) op ≡ None) × AreAccepted (earlier ++ op ∷ []) ops
 
-  at_seam : {X : Type 0} (xs ys : List X) (y : X) → slice_get (xs ++ y ∷ ys) (length xs) ≡ Some y
+  pub at_seam : {X : Type 0} (xs ys : List X) (y : X) → slice_get (xs ++ y ∷ ys) (length xs) ≡ Some y
   at_seam [] ys y = refl
   at_seam (x ∷ xs) ys y = at_seam xs ys y
 

@@ -123,7 +123,7 @@ winner_held history grown path id is =
 
 -- ---- characters
 
-run_is : (first : ElemId) (count : ℕ) (id : ElemId) → is_in_run first count id ≡ true → id ≡ record first { index = id.index }
+pub run_is : (first : ElemId) (count : ℕ) (id : ElemId) → is_in_run first count id ≡ true → id ≡ record first { index = id.index }
 run_is first zero id is = cc
 run_is first (suc count) id is = by (run_is (next_id first) count id) (same first id) refl is where
   by : (is_in_run (next_id first) count id ≡ true → id ≡ record first { index = id.index }) → (b : Bool) → same first id ≡ b
@@ -190,7 +190,7 @@ module _ (history : History) where
           | inr never ↦ cc
         ]
 
-    each_has : (xs : List Element) → AllByRecursion (λ (e : Element). Has e.id xs) xs
+    pub each_has : (xs : List Element) → AllByRecursion (λ (e : Element). Has e.id xs) xs
     each_has [] = tt
     each_has (x ∷ xs) = (inl refl, all_more (λ (e : Element). Has e.id xs) (λ (e : Element). Has e.id (x ∷ xs)) xs (λ e has. inr has) (each_has xs))
 

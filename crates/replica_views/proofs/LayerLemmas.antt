@@ -99,7 +99,7 @@ filter_same p q [] all = refl
 filter_same p q (x ∷ xs) all =
     ap₂ (λ (b : Bool) (rest : List _). cond b (x ∷ rest) rest) all.0 (filter_same p q xs all.1)
 
-filter_none : {X : Type 0} (p : X → Bool) (xs : List X) → AllByRecursion (λ x. p x ≡ false) xs → filter p xs ≡ []
+pub filter_none : {X : Type 0} (p : X → Bool) (xs : List X) → AllByRecursion (λ x. p x ≡ false) xs → filter p xs ≡ []
 filter_none p [] all = refl
 filter_none p (x ∷ xs) all = cond-false (p x) (x ∷ filter p xs) (filter p xs) all.0 ∙ filter_none p xs all.1
 

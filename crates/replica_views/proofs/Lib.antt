@@ -14,3 +14,9 @@ pub mod WrittenLemmas
 pub mod HeldLemmas
 pub mod WinnerLemmas
 pub mod MadeLemmas
+pub mod ComesLemmas
+pub mod AcceptingLemmas
+pub mod NextLemmas
+pub mod DirectoryLemmas
+pub mod SameLemmas
+pub mod RemovedLemmas

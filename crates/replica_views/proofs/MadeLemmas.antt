@@ -1,9 +1,8 @@
 -- A made change has the delta that it was made for as its effect, and no other path has one.
-use Rattle.std.proofs.Common.{◌≡◌, ℕ, zero, suc, ◌+◌, Bool, true, false, cond, refl, sym, ap, ap₂, ◌∙◌, subst, List, [], ◌∷◌, ◌++◌, map, flat_map, length, Option, Some, None, is_some, arith}
+use Rattle.std.proofs.Common.{◌≡◌, ℕ, suc, ◌+◌, Bool, true, false, cond, refl, sym, ap, ap₂, ◌∙◌, subst, List, [], ◌∷◌, ◌++◌, map, flat_map, length, Option, Some, None, is_some, arith}
 use Rattle.std.specs.List.{AllByRecursion, count_by, filter}
-use Rattle.std.specs.Option.{option_map}
 use Rattle.std.proofs.lemmas.List.{append-nil}
-use Rattle.delta.specs.Cells.{Cell, Cells, ends, base_length, inserts, covers, deleting, nothing, normal, one_if, IsNormal, changes_nothing}
+use Rattle.delta.specs.Cells.{Cell, Cells, ends, base_length, inserts, deleting, normal, one_if, IsNormal, changes_nothing}
 use Rattle.tt_base.specs.Elements.{is_alive}
 use Rattle.tt_base.specs.declared.ids.Name.{Name}
 use Rattle.tt_base.specs.declared.ids.Actor.{Actor}
@@ -31,7 +30,6 @@ use Rattle.replica_text.specs.Effect.{text_of, effect}
 use Rattle.replica_text.specs.Made.{made_ops, IsAbove}
 use Rattle.replica_text.proofs.OrderLemmas.{same_self, other_same}
 use Rattle.replica_text.proofs.EffectLemmas.{count_more}
-use Rattle.replica_text.proofs.JoinLemmas.{joins_nothing}
 use Rattle.replica_text.proofs.MadeEffects.{made_effect}
 use Rattle.replica_text.proofs.MadeWalks.{later, made_walk}
 use Rattle.replica_views.specs.Ids.{id_at, id_of}
@@ -44,7 +42,7 @@ use Rattle.replica_views.specs.Growth.{MayCome, IsGrown}
 use Rattle.replica_views.specs.Laws.{DoesOnly}
 use Rattle.replica_views.proofs.StepLemmas.{tree_step}
 use Rattle.replica_views.proofs.TreeLemmas.{IsWell}
-use Rattle.replica_views.proofs.ViewLemmas.{known_on, well_tree, text_read}
+use Rattle.replica_views.proofs.ViewLemmas.{view_stays, effect_stays, known_on, well_tree, text_read}
 use Rattle.replica_views.proofs.WrittenLemmas.{same_written, read_back, read_elsewhere, none_made, none_removed, made_readable}
 use Rattle.replica_views.proofs.StayLemmas.{IsEntry, HasHeldRefs, all_by_depth, grown_entries}
 use Rattle.replica_views.proofs.HeldLemmas.{IsHeldId, ref_held, makes_in, removes_in, winner_held, above_elements, true_later, visible_are_true, held_apart}
@@ -67,10 +65,6 @@ text_length (x ∷ xs) = by x.alive refl (text_length xs) where
       ap (λ (b : Bool). length (map (λ (e : Element). e.ch) (cond b (x ∷ filter is_alive xs) (filter is_alive xs)))) is
       ∙ rest ∙ (let e : count_by is_alive xs ≡ one_if false + count_by is_alive xs = omega arith in e)
       ∙ sym (more ∙ ap (λ (b : Bool). one_if b + count_by is_alive xs) is)
-
-kept_nothing : (n : ℕ) → changes_nothing (normal (covers true n nothing)) ≡ true
-kept_nothing zero = refl
-kept_nothing (suc n) = kept_nothing n
 
 -- ---- a change to a file that is there
 
@@ -147,32 +141,14 @@ module _ (history : History) (actor : Actor) (path : List ℕ) (d : Cells) (grow
         ∙ ap (λ (ops : List TextOp). after_ops ops (tree_of history v))
         (read_elsewhere after name (ref_to w) v (ap (same v) own_is ∙ other_same v w apart) (made_ops old d (next_id_at history actor 0)) 0)
 
+    trees_elsewhere : (q : List ℕ) → (q ≡ path → ⊥) → (v : ElemId) → winner_at history q ≡ Some v → tree_of after v ≡ tree_of history v
+    trees_elsewhere q apart v is = tree_still v (λ e. winners_apart history grown q path v w is is_winner apart e)
+
     pub view_still : (q : List ℕ) → (q ≡ path → ⊥) → view_at after q ≡ view_at history q
-    unfolding view_at
-    view_still q apart =
-        ap (option_map (λ object. text_of (elements_of after object))) (winner_still q) ∙ by (winner_at history q) refl where
-          by : (o : Option ElemId) → winner_at history q ≡ o
-              → option_map (λ object. text_of (elements_of after object)) o ≡ option_map (λ object. text_of (elements_of history object)) o
-          by None is = refl
-          by (Some v) is =
-              ap (λ (tree : Tree). Some (text_of (walk tree))) (tree_still v (λ e. winners_apart history grown q path v w is is_winner apart e))
+    view_still q apart = view_stays history after q (winner_still q) (trees_elsewhere q apart)
 
     pub effect_nowhere : (q : List ℕ) → (q ≡ path → ⊥) → changes_nothing (effect_at history after q) ≡ true
-    unfolding effect_at
-    effect_nowhere q apart =
-        ap (λ (b : Option ElemId). changes_nothing
-        (cond (is_same_object (winner_at history q) b) (effect (elements_in history (winner_at history q)) (elements_in after b))
-        (replaced (elements_in history (winner_at history q)) (elements_in after b)))) (winner_still q)
-        ∙ by (winner_at history q) refl where
-          by : (o : Option ElemId) → winner_at history q ≡ o
-              → changes_nothing (cond (is_same_object o o) (effect (elements_in history o) (elements_in after o)) (replaced (elements_in history o) (elements_in after o))) ≡ true
-          by None is = refl
-          by (Some v) is =
-              let xs : List Element = elements_of history v in
-              ap (λ (b : Bool). changes_nothing (cond b (effect xs (elements_of after v)) (replaced xs (elements_of after v)))) (same_self v)
-              ∙ ap (λ (tree : Tree). changes_nothing (effect xs (walk tree))) (tree_still v (λ e. winners_apart history grown q path v w is is_winner apart e))
-              ∙ ap changes_nothing (sym (joins_nothing xs (well_tree history grown v).distinct).is_effect)
-              ∙ kept_nothing (count_by is_alive xs)
+    effect_nowhere q apart = effect_stays history after q grown (winner_still q) (trees_elsewhere q apart)
 
   -- ---- a change that makes the file
 
@@ -306,31 +282,14 @@ module _ (history : History) (actor : Actor) (path : List ℕ) (d : Cells) (grow
         ∙ ap (λ (ops : List TextOp). after_ops ops (tree_of history v))
         (read_elsewhere begun own_name (Here 0) v (other_object v is) (made_ops [] d (next_id_at history actor 1)) 1)
 
+    trees_before : (q : List ℕ) (v : ElemId) → winner_at history q ≡ Some v → tree_of begun v ≡ tree_of history v
+    trees_before q v is = tree_before v (winner_held history grown q v is)
+
     pub view_before : (q : List ℕ) → (q ≡ path → ⊥) → view_at begun q ≡ view_at history q
-    unfolding view_at
-    view_before q apart =
-        ap (option_map (λ id. text_of (elements_of begun id))) (winner_before q apart) ∙ by (winner_at history q) refl where
-          by : (o : Option ElemId) → winner_at history q ≡ o
-              → option_map (λ id. text_of (elements_of begun id)) o ≡ option_map (λ id. text_of (elements_of history id)) o
-          by None is = refl
-          by (Some v) is = ap (λ (tree : Tree). Some (text_of (walk tree))) (tree_before v (winner_held history grown q v is))
+    view_before q apart = view_stays history begun q (winner_before q apart) (trees_before q)
 
     pub effect_not : (q : List ℕ) → (q ≡ path → ⊥) → changes_nothing (effect_at history begun q) ≡ true
-    unfolding effect_at
-    effect_not q apart =
-        ap (λ (b : Option ElemId). changes_nothing
-        (cond (is_same_object (winner_at history q) b) (effect (elements_in history (winner_at history q)) (elements_in begun b))
-        (replaced (elements_in history (winner_at history q)) (elements_in begun b)))) (winner_before q apart)
-        ∙ by (winner_at history q) refl where
-          by : (o : Option ElemId) → winner_at history q ≡ o
-              → changes_nothing (cond (is_same_object o o) (effect (elements_in history o) (elements_in begun o)) (replaced (elements_in history o) (elements_in begun o))) ≡ true
-          by None is = refl
-          by (Some v) is =
-              let xs : List Element = elements_of history v in
-              ap (λ (b : Bool). changes_nothing (cond b (effect xs (elements_of begun v)) (replaced xs (elements_of begun v)))) (same_self v)
-              ∙ ap (λ (tree : Tree). changes_nothing (effect xs (walk tree))) (tree_before v (winner_held history grown q v is))
-              ∙ ap changes_nothing (sym (joins_nothing xs (well_tree history grown v).distinct).is_effect)
-              ∙ kept_nothing (count_by is_alive xs)
+    effect_not q apart = effect_stays history begun q grown (winner_before q apart) (trees_before q)
 
 -- ---- both
 

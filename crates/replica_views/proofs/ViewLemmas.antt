@@ -1,12 +1,12 @@
 -- What is shown: each effect leads from the text before to that after.
-use Rattle.std.proofs.Common.{◌≡◌, ℕ, Bool, true, false, cond, refl, sym, ap, ◌∙◌, subst, List, [], length, Option, Some, None}
+use Rattle.std.proofs.Common.{◌≡◌, ℕ, zero, suc, Bool, true, false, cond, refl, sym, ap, ◌∙◌, subst, List, [], length, Option, Some, None}
 use Rattle.std.specs.Option.{option_map, unwrap_or}
 use Rattle.tt_base.specs.declared.ids.ElemId.{ElemId}
 use Rattle.tt_base.specs.declared.elements.Element.{Element}
 use Rattle.tt_base.specs.declared.text_ops.TextOp.{TextOp}
 use Rattle.change_codec.specs.Change.{Change}
 use Rattle.change_graph.specs.History.{History, name_of, with_change}
-use Rattle.delta.specs.Cells.{applied, inserts, deleting}
+use Rattle.delta.specs.Cells.{covers, nothing, normal, changes_nothing, applied, inserts, deleting}
 use Rattle.delta.proofs.LawLemmas.{applied-normal}
 use Rattle.delta.proofs.ApplyLemmas.{applied-replacing_all}
 use Rattle.replica_text.specs.Ids.{same, is_known}
@@ -14,7 +14,10 @@ use Rattle.replica_text.specs.Tree.{Tree, Leaf, walk}
 use Rattle.replica_text.specs.Ops.{all_known_after, AllMayFollow}
 use Rattle.replica_text.specs.Joined.{Grows}
 use Rattle.replica_text.specs.Effect.{text_of, effect}
-use Rattle.replica_text.proofs.OrderLemmas.{same_one}
+use Rattle.replica_text.proofs.OrderLemmas.{same_one, same_self}
+use Rattle.replica_text.proofs.JoinLemmas.{joins_nothing}
+use Rattle.std.specs.List.{count_by}
+use Rattle.tt_base.specs.Elements.{is_alive}
 use Rattle.replica_text.proofs.OpsLemmas.{may_back}
 use Rattle.replica_text.proofs.LeadLemmas.{effect_leads}
 use Rattle.replica_views.specs.Objects.{winner_at}
@@ -91,3 +94,40 @@ module _ (history : History) (change : Change) (grown : IsGrown history) (may : 
       ap (applied (effect_at history later path)) (text_read history path)
       ∙ leads_at (winner_at history path) (winner_at later path)
       ∙ sym (text_read later path)
+
+-- ---- where nothing comes
+
+kept_nothing : (n : ℕ) → changes_nothing (normal (covers true n nothing)) ≡ true
+kept_nothing zero = refl
+kept_nothing (suc n) = kept_nothing n
+
+module _ (history later : History) (path : List ℕ) where
+  -- where the same object is read, with the same tree, the view stays
+  pub view_stays : winner_at later path ≡ winner_at history path
+      → ((object : ElemId) → winner_at history path ≡ Some object → tree_of later object ≡ tree_of history object) → view_at later path ≡ view_at history path
+  unfolding view_at
+  view_stays winner trees = ap (option_map (λ object. text_of (elements_of later object))) winner ∙ by (winner_at history path) refl where
+    by : (o : Option ElemId) → winner_at history path ≡ o
+        → option_map (λ object. text_of (elements_of later object)) o ≡ option_map (λ object. text_of (elements_of history object)) o
+    by None is = refl
+    by (Some object) is = ap (λ (tree : Tree). Some (text_of (walk tree))) (trees object is)
+
+  -- and the effect is nothing
+  pub effect_stays : IsGrown history → winner_at later path ≡ winner_at history path
+      → ((object : ElemId) → winner_at history path ≡ Some object → tree_of later object ≡ tree_of history object)
+      → changes_nothing (effect_at history later path) ≡ true
+  unfolding effect_at
+  effect_stays grown winner trees =
+      ap (λ (b : Option ElemId). changes_nothing
+      (cond (is_same_object (winner_at history path) b) (effect (elements_in history (winner_at history path)) (elements_in later b))
+      (replaced (elements_in history (winner_at history path)) (elements_in later b)))) winner
+      ∙ by (winner_at history path) refl where
+        by : (o : Option ElemId) → winner_at history path ≡ o
+            → changes_nothing (cond (is_same_object o o) (effect (elements_in history o) (elements_in later o)) (replaced (elements_in history o) (elements_in later o))) ≡ true
+        by None is = refl
+        by (Some object) is =
+            let xs : List Element = elements_of history object in
+            ap (λ (b : Bool). changes_nothing (cond b (effect xs (elements_of later object)) (replaced xs (elements_of later object)))) (same_self object)
+            ∙ ap (λ (tree : Tree). changes_nothing (effect xs (walk tree))) (trees object is)
+            ∙ ap changes_nothing (sym (joins_nothing xs (well_tree history grown object).distinct).is_effect)
+            ∙ kept_nothing (count_by is_alive xs)

@@ -1,8 +1,9 @@
 -- Which object is read at each path behind a change that removes nothing.
-use Rattle.std.proofs.Common.{◌≡◌, ◌⊎◌, inl, inr, ℕ, ◌+◌, ◌<◌, ◌≤◌, Bool, true, false, cond, not, refl, sym}
+use Rattle.std.proofs.Common.{◌≡◌, ◌⊎◌, inl, inr, ℕ, ◌+◌, ◌<◌, ◌≤◌, Bool, true, false, cond, not, ◌||◌, refl, sym}
 use Rattle.std.proofs.Common.{ap, ap₂, ◌∙◌, subst, List, [], ◌∷◌, ◌++◌, flat_map, length, Option, Some, None, is_some, arith}
 use Rattle.std.specs.List.{AllByRecursion, filter}
 use Rattle.std.proofs.lemmas.Grind.{flat_map-append}
+use Rattle.std.proofs.lemmas.List.Folds.{list_any-append}
 use Rattle.std.proofs.lemmas.List.Elements.{filter-append}
 use Rattle.tt_base.specs.declared.ids.Name.{Name}
 use Rattle.tt_base.specs.declared.ids.ElemId.{ElemId}
@@ -93,22 +94,53 @@ module _ (history : History) (change : Change) (grown : IsGrown history) (may : 
   makes_before : (path : List ℕ) → makes_at history path ≡ front_makes path ++ last_makes path
   makes_before path = put_flat_without (makes_in history path) entry history later put
 
+  abbrev front_removes : List ElemId
+  front_removes = flat_map (removes_in history) put.front
+
+  abbrev last_removes : List ElemId
+  last_removes = flat_map (removes_in history) put.behind
+
+  removes_later : removes later ≡ front_removes ++ (removes_in later entry ++ last_removes)
+  removes_later =
+      put_flat (removes_in later) entry history later put
+      ∙ ap₂ (λ (xs ys : List ElemId). xs ++ (removes_in later entry ++ ys))
+      (removes_stay put.front (all_front (IsEntry history) put.front put.behind entries))
+      (removes_stay put.behind (all_back (IsEntry history) put.front put.behind entries))
+
+  removes_before : removes history ≡ front_removes ++ last_removes
+  removes_before = put_flat_without (removes_in history) entry history later put
+
+  -- where nothing is made, the same was made
+  pub makes_same : (path : List ℕ) → makes_in later path entry ≡ [] → makes_at later path ≡ makes_at history path
+  makes_same path none =
+      makes_later path ∙ ap (λ (xs : List ElemId). front_makes path ++ (xs ++ last_makes path)) none ∙ sym (makes_before path)
+
+  swapped : (a b c : Bool) → (a || (b || c)) ≡ ((a || c) || b)
+  swapped true b c = refl
+  swapped false true true = refl
+  swapped false true false = refl
+  swapped false false true = refl
+  swapped false false false = refl
+
+  -- what is removed now was removed before, or the change removes it
+  pub removed_now : (id : ElemId) → has_id (removes later) id ≡ (has_id (removes history) id || has_id (removes_in later entry) id)
+  removed_now id =
+      ap (λ (xs : List ElemId). has_id xs id) removes_later
+      ∙ list_any-append (is_id id) front_removes (removes_in later entry ++ last_removes)
+      ∙ ap (λ (b : Bool). has_id front_removes id || b) (list_any-append (is_id id) (removes_in later entry) last_removes)
+      ∙ swapped (has_id front_removes id) (has_id (removes_in later entry) id) (has_id last_removes id)
+      ∙ ap (λ (b : Bool). b || has_id (removes_in later entry) id)
+      (sym (ap (λ (xs : List ElemId). has_id xs id) removes_before ∙ list_any-append (is_id id) front_removes last_removes))
+
   module _ (keeps : removes_in later entry ≡ []) where
     pub removes_same : removes later ≡ removes history
-    removes_same =
-        put_flat (removes_in later) entry history later put
-        ∙ ap (λ (xs : List ElemId). flat_map (removes_in later) put.front ++ (xs ++ flat_map (removes_in later) put.behind)) keeps
-        ∙ ap₂ (λ (xs ys : List ElemId). xs ++ ys)
-        (removes_stay put.front (all_front (IsEntry history) put.front put.behind entries))
-        (removes_stay put.behind (all_back (IsEntry history) put.front put.behind entries))
-        ∙ sym (put_flat_without (removes_in history) entry history later put)
+    removes_same = removes_later ∙ ap (λ (xs : List ElemId). front_removes ++ (xs ++ last_removes)) keeps ∙ sym removes_before
 
     -- where nothing is made the winner stays
     pub winner_stays : (path : List ℕ) → makes_in later path entry ≡ [] → winner_at later path ≡ winner_at history path
     unfolding winner_at
     winner_stays path none =
-        ap₂ (λ (rs ms : List ElemId). greatest_id (filter (λ id. not (has_id rs id)) ms)) removes_same
-        (makes_later path ∙ ap (λ (xs : List ElemId). front_makes path ++ (xs ++ last_makes path)) none ∙ sym (makes_before path))
+        ap₂ (λ (rs ms : List ElemId). greatest_id (filter (λ id. not (has_id rs id)) ms)) removes_same (makes_same path none)
 
     both_none : (xs ys : List ElemId) → xs ++ ys ≡ [] → (xs ≡ []) × (ys ≡ [])
     both_none [] ys is = (refl, is)
@@ -156,18 +188,18 @@ module _ (history : History) (change : Change) (grown : IsGrown history) (may : 
 
 -- ---- an object stands at one path
 
-abbrev IsMakeAt : List ℕ → Op → Type 0
+abbrev pub IsMakeAt : List ℕ → Op → Type 0
 IsMakeAt path (Make made) = path ≡ made
 IsMakeAt path (Remove object) = ⊥
 IsMakeAt path (Insert object parent text) = ⊥
 IsMakeAt path (Delete object first count) = ⊥
 
-each_in : {X : Type 0} (xs : List X) → AllByRecursion (λ x. IsIn x xs) xs
+pub each_in : {X : Type 0} (xs : List X) → AllByRecursion (λ x. IsIn x xs) xs
 each_in [] = tt
 each_in (x ∷ xs) = (inl refl, all_more (λ y. IsIn y xs) (λ y. IsIn y (x ∷ xs)) xs (λ y is. inr is) (each_in xs))
 
 module _ (history : History) (n : Name) where
-  make_in : (path : List ℕ) (index : ℕ) (op : Op) (rest : List ElemId) (v : ElemId) → IsIn v (makes_of history n path index op ++ rest)
+  pub make_in : (path : List ℕ) (index : ℕ) (op : Op) (rest : List ElemId) (v : ElemId) → IsIn v (makes_of history n path index op ++ rest)
       → ((v ≡ id_at history n index) × IsMakeAt path op) ⊎ IsIn v rest
   make_in path index (Make made) rest v is = by (is_path path made) refl is where
     by : (b : Bool) → is_path path made ≡ b → IsIn v (cond b (id_at history n index ∷ []) [] ++ rest)
@@ -179,7 +211,7 @@ module _ (history : History) (n : Name) where
   make_in path index (Insert object parent text) rest v is = inr is
   make_in path index (Delete object first count) rest v is = inr is
 
-  at_least : (path : List ℕ) (ops : List Op) (index : ℕ) (v : ElemId) → IsIn v (makes_from history n path index ops) → index ≤ v.index
+  pub at_least : (path : List ℕ) (ops : List Op) (index : ℕ) (v : ElemId) → IsIn v (makes_from history n path index ops) → index ≤ v.index
   at_least path [] index v is = absurd is
   at_least path (op ∷ ops) index v is =
       elim (make_in path index op (makes_from history n path (index + length (things_of op)) ops) v is) [
@@ -238,12 +270,12 @@ pub record IsMadeBy (history : History) (path : List ℕ) (v : ElemId) : Type 0 
   pub found : change_at history v.name ≡ Some change
   pub there : IsIn v (makes_from history v.name path 0 change.ops)
 
-in_parts : {X : Type 0} (x : X) (xs ys : List X) → IsIn x (xs ++ ys) → IsIn x xs ⊎ IsIn x ys
+pub in_parts : {X : Type 0} (x : X) (xs ys : List X) → IsIn x (xs ++ ys) → IsIn x xs ⊎ IsIn x ys
 in_parts x [] ys is = inr is
 in_parts x (y ∷ xs) ys (inl is) = inl (inl is)
 in_parts x (y ∷ xs) ys (inr is) = elim (in_parts x xs ys is) [ inl one ↦ inl (inr one) | inr other ↦ inr other ]
 
-made_in : (history : History) (path : List ℕ) (v : ElemId) (es : History) → AllByRecursion (IsEntry history) es → IsIn v (flat_map (makes_in history path) es)
+pub made_in : (history : History) (path : List ℕ) (v : ElemId) (es : History) → AllByRecursion (IsEntry history) es → IsIn v (flat_map (makes_in history path) es)
     → IsMadeBy history path v
 made_in history path v [] all is = absurd is
 made_in history path v (e ∷ es) all is =

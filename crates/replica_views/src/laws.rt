@@ -1,29 +1,36 @@
 //! What holds of the readings of a history. Each function has an empty body, and its contract is the law.
-ghost use Rattle.std.specs.Prelude.{◌≡◌, ℕ, List, [], length};
+ghost use Rattle.std.specs.Prelude.{◌≡◌, ℕ, ◌^◌, ◌≤◌, false, List, [], length};
 ghost use Rattle.delta.specs.Cells.{Cells, applied, base_length, IsNormal};
 ghost use Rattle.tt_base.specs.Elements.{AreDistinct};
 ghost use Rattle.tt_base.specs.declared.ids.Actor.{Actor};
 ghost use Rattle.tt_base.specs.declared.ids.ElemId.{ElemId};
+ghost use Rattle.tt_base.specs.declared.ids.Name.{Name};
 ghost use Rattle.change_codec.specs.Change.{Change};
-ghost use Rattle.change_graph.specs.History.{History, name_of, with_change};
+ghost use Rattle.change_codec.specs.Encoding.{change_format};
+ghost use Rattle.change_graph.specs.History.{History, change_at, is_held, name_of, with_change};
 ghost use Rattle.change_graph.specs.Answers.{IsHeads};
 ghost use Rattle.change_graph.specs.Depths.{IsDepths};
 ghost use Rattle.change_graph.specs.Histories.{IsHistory};
+ghost use Rattle.change_graph.specs.Refusals.{things};
+ghost use Rattle.replica_dir.specs.DirectoryView.{DirectoryView, IsWinner};
 ghost use Rattle.replica_text.specs.Ids.{is_known};
 ghost use Rattle.replica_text.specs.Tree.{IsTree};
 ghost use Rattle.replica_text.specs.Ops.{AllMayFollow, after_ops};
 ghost use Rattle.replica_views.specs.Effects.{effect_at};
 ghost use Rattle.replica_views.specs.Growth.{MayCome, IsGrown};
 ghost use Rattle.replica_views.specs.Ids.{depth_at};
-ghost use Rattle.replica_views.specs.Laws.{DoesOnly};
-ghost use Rattle.replica_views.specs.Made.{heads_of, made};
+ghost use Rattle.replica_views.specs.Laws.{DoesOnly, RemovesOnly};
+ghost use Rattle.replica_views.specs.Made.{heads_of, made, removed};
+ghost use Rattle.replica_views.specs.Objects.{IsDirectoryOf, winner_at};
 ghost use Rattle.replica_views.specs.Texts.{ops_on, text_ops, tree_of, elements_of};
 ghost use Rattle.replica_views.specs.Views.{view_at, text_at};
 
-/// Equal histories have equal views of every path: a view is read off the changes alone, and not off the order in which they
-/// came.
+/// Histories that hold the same changes are one, and so they have equal views of every path: a view is read off the changes
+/// alone, and not off the order in which they came.
 pub fn equal_histories_have_equal_views()
-    ensures { (one other : History) → one ≡ other → (path : List ℕ) → view_at one path ≡ view_at other path }
+    ensures histories { (one other : History) → IsHistory one → IsHistory other → ((name : Name) → change_at one name ≡ change_at other name) → one ≡ other }
+    ensures views { (one other : History) → IsHistory one → IsHistory other → ((name : Name) → change_at one name ≡ change_at other name)
+        → (path : List ℕ) → view_at one path ≡ view_at other path }
 {}
 
 /// A history to which changes came one by one is closed, without cycles and accepted; its depths and its heads are those of its
@@ -63,4 +70,27 @@ pub fn an_effect_leads_to_the_next_text()
 pub fn a_made_change_does_what_it_was_made_for()
     ensures { (history : History) (actor : Actor) (path : List ℕ) (d : Cells) → IsGrown history → MayCome history (made history actor path d)
         → base_length d ≡ length (text_at history path) → IsNormal d → DoesOnly history (made history actor path d) path d }
+{}
+
+/// A change that removes the file at a path leaves none there, and no other path has an effect or another view.
+pub fn a_removing_change_removes_one_file()
+    ensures { (history : History) (actor : Actor) (path : List ℕ) → IsGrown history → MayCome history (removed history actor path)
+        → RemovesOnly history (removed history actor path) path }
+{}
+
+/// A change that a daemon makes may come next: none of its operations is refused. It must have an encoding and a name under which
+/// nothing is held, and the indices of what it makes must fit u64.
+pub fn own_changes_may_come_next()
+    ensures made { (history : History) → IsGrown history → (actor : Actor) (path : List ℕ) (d : Cells)
+        → is_held history (name_of (made history actor path d)) ≡ false → change_format.Fits (made history actor path d)
+        → length (things (made history actor path d).ops) ≤ 2 ^ 64 → MayCome history (made history actor path d) }
+    ensures removed { (history : History) → IsGrown history → (actor : Actor) (path : List ℕ)
+        → is_held history (name_of (removed history actor path)) ≡ false → change_format.Fits (removed history actor path)
+        → MayCome history (removed history actor path) }
+{}
+
+/// The winner of a path is that of each directory that was told just the makes and the removes of the history.
+pub fn a_winner_is_that_of_the_directory()
+    ensures { (history : History) (directory : DirectoryView) → IsDirectoryOf history directory → (path : List ℕ)
+        → IsWinner directory path (winner_at history path) }
 {}
