@@ -1,0 +1,5 @@
+pub mod StepLemmas
+pub mod EditLemmas
+pub mod ConnectedLemmas
+pub mod ServingLemmas
+pub mod DaemonLemmas

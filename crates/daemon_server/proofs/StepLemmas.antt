@@ -1,0 +1,49 @@
+-- The steps of a message, each from what it has found so far.
+use Rattle.std.proofs.Common.{◌≡◌, ℕ, false, List, Option, None, Ok, refl, sym, ap, ◌∙◌}
+use Rattle.std.specs.Cmp.Lexicographic.{slice_cmp, nat_list_cmp_total}
+use Rattle.std.specs.Ordering.{nat_cmp}
+use Rattle.editor_bridge.specs.Link.{Link}
+use Rattle.file_uri.specs.Base.{BaseView}
+use Rattle.file_uri.specs.PathOf.{path_of}
+use Rattle.rpc_message.specs.declared.messages.ToEditor.{ToEditor}
+use Rattle.rpc_message.specs.declared.refusals.Refusal.{Refusal}
+use Rattle.rpc_message.specs.declared.refusals.Refusal.TheVariants.{NotOpen}
+use Rattle.daemon_core.specs.History.{History}
+use Rattle.daemon_core.specs.Outcome.{Stays, Gone, Success, Outcome, answers, own_links}
+use Rattle.daemon_core.specs.Refusing.{Step, ◌>>=◌, closed, unless_bad_uri, open_link}
+use Rattle.daemon_core.specs.Serving.{on_close}
+use Rattle.daemon_core.specs.State.{Links, link_at}
+use Rattle.daemon_links.specs.Editing.{Stops}
+use Rattle.daemon_links.specs.declared.changes.Change.{Change}
+use Rattle.daemon_links.specs.declared.stops.Stop.{Stop}
+use Rattle.daemon_links.specs.declared.stops.Stop.TheVariants as stop
+use Rattle.daemon_links.proofs.MapLemmas.{none_gone}
+use Rattle.daemon_server.specs.Following.{desk, IsRefused}
+use Rattle.daemon_server.specs.declared.handled.Answer.TheVariants as answer
+use Rattle.daemon_server.specs.declared.handled.Handled.{Handled}
+
+-- what is told of a refusal, told otherwise
+pub stops_as : {P Q : Refusal → Type 0} → ((r : Refusal) → P r → Q r) → (s : Stop) → Stops P s → Stops Q s
+stops_as goes (stop.Refused r) told = goes r told
+stops_as goes stop.Memory told = tt
+
+-- a step that succeeds, with these messages and this change
+abbrev pub success : List ToEditor → Option Change → Handled
+success messages change = record { answer = answer.Success; messages = messages; change = change; shuts_down = false }
+
+-- a refusal that ends the link at a path
+pub refused_and_gone : (base : BaseView) (h : History) (links own : Links) (path : List ℕ) (step : Step Outcome) (r : Refusal) → own ≡ own_links (Gone path) links → step ≡ closed path r
+    → IsRefused (desk base h links) step own r
+refused_and_gone base h links own path step r is e = record { event = Gone path; step_is = e; own_is = is; silent = refl }
+
+-- a file that is to be closed and is not open
+pub close_none : (base : BaseView) (h : History) (links own : Links) (uri path : List ℕ) → path_of base uri ≡ Ok path → None ≡ link_at links path → own ≡ own_links (Gone path) links
+    → IsRefused (desk base h links) (on_close (desk base h links) 0 uri) own NotOpen
+close_none base h links own uri path named none gone = record {
+  event = Stays;
+  step_is =
+      ap (λ r. unless_bad_uri r >>= λ p. open_link (link_at links p) >>= λ l. Ok (record (answers (desk base h links) Success) { own = Gone p })) named
+      ∙ ap (λ (o : Option Link). open_link o >>= λ l. Ok (record (answers (desk base h links) Success) { own = Gone path })) (sym none);
+  own_is = gone ∙ none_gone (slice_cmp nat_cmp) nat_list_cmp_total path links none;
+  silent = refl;
+}

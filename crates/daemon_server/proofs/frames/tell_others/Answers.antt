@@ -1,0 +1,15 @@
+use Rattle.std.proofs.Common.{ap}
+use Rattle.daemon_links.proofs.TellLemmas.{all_untold, all_unsent}
+use Rattle.daemon_server.specs.Telling.{effects_if}
+use Rattle.daemon_server.proofs.ConnectedLemmas.{all_may_tell}
+use Rattle.daemon_server.proofs.frames.tell_others.Goals as goal
+
+pub tell-requires-clause-told : goal.tell-requires-clause-told
+tell-requires-clause-told c = all_may_tell c.args.files.now c.in-Some.change.path c.args.others.now c.requires.room c.requires.linked
+
+pub returns-in-None-clause-links : goal.returns-in-None-clause-links
+returns-in-None-clause-links c = all_untold (effects_if c.args.change.now) (ap effects_if c.in-None.is) c.args.others.now
+
+pub returns-in-None-clause-sent : goal.returns-in-None-clause-sent
+returns-in-None-clause-sent c =
+    all_unsent c.args.base.now (effects_if c.args.change.now) c.args.others.now c.args.sent.now.items (ap effects_if c.in-None.is)

@@ -1,0 +1,4 @@
+pub mod Parts
+pub mod Editing
+pub mod Following
+pub mod Telling
