@@ -15,11 +15,14 @@ use Rattle.journal_format.specs.Image.{actor_is_first}
 use Rattle.journal_format.specs.declared.records.Note.{Note}
 use Rattle.journal_format.specs.declared.records.Record.{Record}
 use Rattle.journal_format.specs.declared.records.Record.TheVariants as records
-use Rattle.replica_views.specs.Growth.{MayCome, IsGrown, Come}
+use Rattle.delta.specs.Cells.{Cells, IsNormal}
+use Rattle.replica_views.specs.Growth.{MayCome, IsGrown, Begun, Come}
+use Rattle.replica_views.specs.Made.{made}
+use Rattle.replica_views.proofs.MadeLemmas.{made_does_only}
 use Rattle.replica_views.specs.Views.{beginning}
 use Rattle.replica_store.specs.Records.{Notes, no_notes, with_new, with_read, with_record, history_from, IsTakenAs, IsTaken, AreTaken, with_note, notes_from, actor_from, begun}
 use Rattle.replica_store.specs.Store.{StoreView, all_records, IsStore}
-use Rattle.replica_store.specs.Calls.{with_staged, with_noted, IsWritten, IsCommitted, IsOpened}
+use Rattle.replica_store.specs.Calls.{CanMake, IsMade, made_answer, with_staged, with_noted, IsWritten, IsCommitted, IsOpened}
 
 pub history-append : (history : History) (xs ys : List Record) → history_from history (xs ++ ys) ≡ history_from (history_from history xs) ys
 history-append history [] ys = refl
@@ -188,3 +191,21 @@ reopened_history store again recorded given is whole opened = opened.history_is 
 pub reopened_notes : {D : Type 0} (store again : StoreView D) (recorded : List Record) (given : Actor) → IsStore store
     → recorded ≡ all_records store → IsOpened recorded given again → again.notes ≡ store.notes
 reopened_notes store again recorded given is whole opened = opened.notes_are ∙ ap (notes_from no_notes) whole ∙ sym is.notes_are
+
+-- ---- what a store makes
+
+-- the history of a store has grown change by change
+pub store_grown : {D : Type 0} (store : StoreView D) → IsStore store → IsGrown store.history
+store_grown store is = subst IsGrown (sym is.history_is) (grown_from beginning (all_records store) Begun is.taken)
+
+pub store_makes : {D : Type 0} (old : StoreView D) (path : List ℕ) (d : Cells) → IsStore old → CanMake old path d → IsNormal d
+    → MayCome old.history (made old.history old.actor path d)
+    → IsMade old path d (with_staged old (made old.history old.actor path d)) (made_answer old path d)
+store_makes old path d is fits normal may = record {
+  added = record {
+    may = may;
+    new_is = refl;
+    are_effects = (made_does_only old.history old.actor path d (store_grown old is) may fits normal).effects;
+  };
+  name_is = refl;
+}

@@ -1,11 +1,14 @@
 -- What each call of a store does to it, and when it is refused.
-use Rattle.std.specs.Prelude.{◌≡◌, ◌≢◌, ◌⊎◌, ℕ, ◌+◌, ◌<◌, List, [], ◌∷◌, ◌++◌, length, replicate, IsTrue, is_some}
+use Rattle.std.specs.Prelude.{◌≡◌, ◌≢◌, ◌⊎◌, ℕ, ◌+◌, ◌<◌, List, [], ◌∷◌, ◌++◌, length, replicate, IsTrue, is_some, false}
 use Rattle.delta.specs.Cells.{Cells, applied, base_length}
 use Rattle.tt_base.specs.declared.ids.Actor.{Actor}
 use Rattle.tt_base.specs.declared.ids.Name.{Name}
 use Rattle.change_codec.specs.Change.{Change}
 use Rattle.change_codec.specs.Encoding.{change_format}
 use Rattle.change_graph.specs.History.{History, name_of, with_change}
+use Rattle.change_graph.specs.Adding.{IsRefused}
+use Rattle.change_graph.specs.declared.faults.GraphFault.{GraphFault}
+use Rattle.change_graph.specs.declared.faults.GraphFault.TheVariants.{Clash, MissingDeps, BadChange, Memory}
 use Rattle.change_graph.specs.Answers.{IsRepeat, IsClash}
 use Rattle.change_journal.specs.Held.{JournalView}
 use Rattle.journal_format.specs.Image.{open_group}
@@ -17,6 +20,7 @@ use Rattle.replica_store.specs.Records.{no_notes, with_note, note_at, history_fr
 use Rattle.replica_store.specs.Store.{StoreView}
 use Rattle.replica_views.specs.Effects.{PathEffect, AreEffects}
 use Rattle.replica_views.specs.Growth.{MayCome}
+use Rattle.replica_views.specs.Laws.{only_effect}
 use Rattle.replica_views.specs.Made.{made, removed}
 use Rattle.replica_views.specs.Views.{beginning, view_at, text_at}
 
@@ -40,6 +44,13 @@ pub record IsRepeated {D : Type 0} (old : StoreView D) (change : Change) (new : 
   pub held : IsRepeat old.history change
   pub new_is : new ≡ old
 
+-- it is refused as a graph refuses it, and nothing changed; without memory the store is of no more use than its disk
+abbrev pub IsNotAdded : {D : Type 0} → StoreView D → Change → StoreView D → GraphFault → Type 0
+IsNotAdded old change new (Clash bytes given) = IsRefused old.history change (Clash bytes given) × (new ≡ old)
+IsNotAdded old change new (MissingDeps names) = IsRefused old.history change (MissingDeps names) × (new ≡ old)
+IsNotAdded old change new (BadChange place cause) = IsRefused old.history change (BadChange place cause) × (new ≡ old)
+IsNotAdded old change new Memory = new.live ≡ false
+
 -- ---- own changes
 
 -- what a store makes: the name of its change, and the effects
@@ -55,6 +66,10 @@ pub record IsOwn {D : Type 0} (old : StoreView D) (change : Change) (new : Store
 -- the change for a delta of the text at a path, where an absent file is read as the empty text
 abbrev pub IsMade : {D : Type 0} → StoreView D → List ℕ → Cells → StoreView D → Making → Type 0
 IsMade old path d new making = IsOwn old (made old.history old.actor path d) new making
+
+-- what is answered where the change for a delta is added: the delta is its one effect, if it is any
+abbrev pub made_answer : {D : Type 0} → StoreView D → List ℕ → Cells → Making
+made_answer store path d = record { name = name_of (made store.history store.actor path d); effects = only_effect path d }
 
 -- the change that removes the file at a path
 abbrev pub IsRemoved : {D : Type 0} → StoreView D → List ℕ → StoreView D → Making → Type 0

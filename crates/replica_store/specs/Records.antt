@@ -1,5 +1,5 @@
 -- What the records of a journal give: the changes that are held, the notes of paths, and whose journal it is.
-use Rattle.std.specs.Prelude.{◌≡◌, ◌≢◌, ◌⊎◌, ℕ, List, [], ◌∷◌, ◌++◌, length, Result, Ok, Err, if◌then◌else◌}
+use Rattle.std.specs.Prelude.{◌≡◌, ◌≢◌, ◌⊎◌, ℕ, List, [], ◌∷◌, ◌++◌, length, Result, Ok, Err, if◌then◌else◌, slice_index}
 use Rattle.std.specs.BTreeMap.{insert_entry}
 use Rattle.std.specs.Cmp.Lexicographic.{slice_cmp}
 use Rattle.std.specs.Map.{lookup}
@@ -72,6 +72,13 @@ pub record IsFirstRefused (recorded : List Record) (place : ℕ) : Type 0 where
   pub fault : GraphFault
   pub refused : IsRefused (history_from beginning before) change fault
   pub some : fault ≢ Memory
+
+-- The open gate at this offset is that of the group with the first change that is refused, where each record has the gate of its
+-- group beside it.
+pub record IsBadAt (recorded : List Record) (gates : List ℕ) (offset : ℕ) : Type 0 where
+  pub place : ℕ
+  pub first : IsFirstRefused recorded place
+  pub gate : offset ≡ slice_index gates place
 
 -- ---- notes
 

@@ -10,7 +10,9 @@ ghost use Rattle.replica_views.specs.Growth.{MayCome, IsGrown};
 ghost use Rattle.replica_views.specs.Views.{beginning};
 ghost use Rattle.replica_store.specs.Records.{Notes, history_from, notes_from, AreTaken};
 ghost use Rattle.replica_store.specs.Store.{StoreView, all_records, IsStore};
-ghost use Rattle.replica_store.specs.Calls.{with_staged, with_noted, IsCommitted, IsOpened};
+ghost use Rattle.replica_store.specs.Calls.{with_staged, with_noted, CanMake, IsMade, made_answer, IsCommitted, IsOpened};
+ghost use Rattle.delta.specs.Cells.{Cells, IsNormal};
+ghost use Rattle.replica_views.specs.Made.{made};
 ghost use Rattle.std.specs.Prelude.{ℕ};
 
 /// Records behind others add to the history and the notes that those give.
@@ -47,4 +49,13 @@ pub fn a_reopened_store_is_the_same<D>()
         → recorded ≡ all_records store → IsOpened recorded given again → again.history ≡ store.history }
     ensures notes { (store again : StoreView D) (recorded : List Record) (given : Actor) → IsStore store
         → recorded ≡ all_records store → IsOpened recorded given again → again.notes ≡ store.notes }
+{}
+
+/// What a store makes for a delta of the text at a path is a change of its own with that delta as its one effect, and with the
+/// change the store is one again.
+pub fn a_store_makes_what_it_is_asked_for<D>()
+    ensures made { (old : StoreView D) (path : List ℕ) (d : Cells) → IsStore old → CanMake old path d → IsNormal d
+        → MayCome old.history (made old.history old.actor path d)
+        → IsMade old path d (with_staged old (made old.history old.actor path d)) (made_answer old path d) }
+    ensures grown { (store : StoreView D) → IsStore store → IsGrown store.history }
 {}

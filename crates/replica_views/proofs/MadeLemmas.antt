@@ -2,7 +2,7 @@
 use Rattle.std.proofs.Common.{◌≡◌, ℕ, suc, ◌+◌, Bool, true, false, cond, refl, sym, ap, ap₂, ◌∙◌, subst, List, [], ◌∷◌, ◌++◌, map, flat_map, length, Option, Some, None, is_some, arith}
 use Rattle.std.specs.List.{AllByRecursion, count_by, filter}
 use Rattle.std.proofs.lemmas.List.{append-nil}
-use Rattle.delta.specs.Cells.{Cell, Cells, ends, base_length, inserts, deleting, normal, one_if, IsNormal, changes_nothing}
+use Rattle.delta.specs.Cells.{applied, Cell, Cells, ends, base_length, inserts, deleting, normal, one_if, IsNormal, changes_nothing}
 use Rattle.tt_base.specs.Elements.{is_alive}
 use Rattle.tt_base.specs.declared.ids.Name.{Name}
 use Rattle.tt_base.specs.declared.ids.Actor.{Actor}
@@ -16,7 +16,15 @@ use Rattle.change_codec.specs.declared.ops.Op.TheVariants.{Make, Remove, Insert,
 use Rattle.tt_base.specs.declared.text_ops.TextOp.TheVariants as on_text
 use Rattle.change_graph.specs.Refusals.{things_of}
 use Rattle.change_graph.specs.History.{History, is_held, name_of, with_change}
-use Rattle.replica_dir.specs.Ids.{is_path}
+use Rattle.replica_dir.specs.Ids.{is_path, has_path}
+use Rattle.std.specs.List.{All}
+use Rattle.std.specs.List.Sorted.{IsStrictlySortedBy}
+use Rattle.std.specs.Prelude.{IsTrue, ◌↔◌}
+use Rattle.std.specs.Option.{option_map, unwrap_or}
+use Rattle.std.proofs.lemmas.List.Elements.{All-nil, All-cons}
+use Rattle.std.specs.Cmp.Lexicographic.{slice_cmp}
+use Rattle.std.specs.Ordering.{nat_cmp}
+use Rattle.std.proofs.Common.{◌||◌}
 use Rattle.replica_dir.proofs.IdLemmas.{path_same}
 use Rattle.std.specs.Ordering.{is_eq}
 use Rattle.std.specs.Cmp.Lexicographic.{nat_list_cmp_total}
@@ -36,13 +44,13 @@ use Rattle.replica_views.specs.Ids.{id_at, id_of}
 use Rattle.replica_views.specs.Objects.{winner_at}
 use Rattle.replica_views.specs.Texts.{parent_of, text_op, text_ops, by_depth, ops_on, tree_of, elements_of}
 use Rattle.replica_views.specs.Views.{elements_in, view_at, text_at}
-use Rattle.replica_views.specs.Effects.{is_same_object, replaced, effect_at}
+use Rattle.replica_views.specs.Effects.{is_same_object, replaced, effect_at, PathEffect, paths_of}
 use Rattle.replica_views.specs.Made.{own_change, ref_to, written_op, next_id_at, ops_for, made}
 use Rattle.replica_views.specs.Growth.{MayCome, IsGrown}
 use Rattle.replica_views.specs.Laws.{DoesOnly}
 use Rattle.replica_views.proofs.StepLemmas.{tree_step}
 use Rattle.replica_views.proofs.TreeLemmas.{IsWell}
-use Rattle.replica_views.proofs.ViewLemmas.{view_stays, effect_stays, known_on, well_tree, text_read}
+use Rattle.replica_views.proofs.ViewLemmas.{effect_leads_at, view_stays, effect_stays, known_on, well_tree, text_read}
 use Rattle.replica_views.proofs.WrittenLemmas.{same_written, read_back, read_elsewhere, none_made, none_removed, made_readable}
 use Rattle.replica_views.proofs.StayLemmas.{IsEntry, HasHeldRefs, all_by_depth, grown_entries}
 use Rattle.replica_views.proofs.HeldLemmas.{IsHeldId, ref_held, makes_in, removes_in, winner_held, above_elements, true_later, visible_are_true, held_apart}
@@ -293,19 +301,84 @@ module _ (history : History) (actor : Actor) (path : List ℕ) (d : Cells) (grow
 
 -- ---- both
 
+-- a file that is there is read
+view_read : (g : History) (path : List ℕ) (w : ElemId) → winner_at g path ≡ Some w → view_at g path ≡ Some (text_at g path)
+unfolding text_at view_at
+view_read g path w is =
+    ap (option_map (λ id. text_of (elements_of g id))) is
+    ∙ ap (λ (o : Option ElemId). Some (unwrap_or (option_map (λ id. text_of (elements_of g id)) o) [])) (sym is)
+
+-- what a change does that does nothing elsewhere
+module _ (history : History) (change : Change) (path : List ℕ) (d : Cells) (grown : IsGrown history) (may : MayCome history change) (object : ElemId)
+    (there : winner_at (with_change history change) path ≡ Some object) (here : effect_at history (with_change history change) path ≡ d)
+    (elsewhere : (q : List ℕ) → (q ≡ path → ⊥) → changes_nothing (effect_at history (with_change history change) q) ≡ true)
+    (views : (q : List ℕ) → (q ≡ path → ⊥) → view_at (with_change history change) q ≡ view_at history q) where
+  view_now : view_at (with_change history change) path ≡ Some (applied d (text_at history path))
+  view_now =
+      view_read (with_change history change) path object there
+      ∙ ap (λ (t : List ℕ). Some t) (sym (effect_leads_at history change grown may path))
+      ∙ ap (λ (e : Cells). Some (applied e (text_at history path))) here
+
+  exact_by : (b : Bool) → All (λ (e : PathEffect). e.delta ≡ effect_at history (with_change history change) e.path) (cond b [] (record { path = path; delta = d } ∷ []))
+  exact_by true = All-nil (λ (e : PathEffect). e.delta ≡ effect_at history (with_change history change) e.path)
+  exact_by false =
+      All-cons (λ (e : PathEffect). e.delta ≡ effect_at history (with_change history change) e.path) (record { path = path; delta = d }) [] (sym here)
+      (All-nil (λ (e : PathEffect). e.delta ≡ effect_at history (with_change history change) e.path))
+
+  rising_by : (b : Bool) → IsStrictlySortedBy (slice_cmp nat_cmp) (paths_of (cond b [] (record { path = path; delta = d } ∷ [])))
+  unfolding IsStrictlySortedBy
+  rising_by true = tt
+  rising_by false = (tt, tt)
+
+  one_is : (a : Bool) → (a || false) ≡ a
+  one_is true = refl
+  one_is false = refl
+
+  among_by : (q : List ℕ) (b : Bool) → changes_nothing d ≡ b → (a : Bool) → is_path q path ≡ a
+      → IsTrue (has_path (paths_of (cond b [] (record { path = path; delta = d } ∷ []))) q) ↔ (changes_nothing (effect_at history (with_change history change) q) ≡ false)
+  among_by q b nothing_is true same_path =
+      let q_is : q ≡ path = path_same q path same_path in
+      let own : changes_nothing (effect_at history (with_change history change) q) ≡ b =
+      ap (λ (p : List ℕ). changes_nothing (effect_at history (with_change history change) p)) q_is ∙ ap changes_nothing here ∙ nothing_is in
+      by b own where
+        by : (b : Bool) → changes_nothing (effect_at history (with_change history change) q) ≡ b
+            → IsTrue (has_path (paths_of (cond b [] (record { path = path; delta = d } ∷ []))) q) ↔ (changes_nothing (effect_at history (with_change history change) q) ≡ false)
+        by true own = (λ never. let f : false ≡ true = never in cc, λ is. let f : true ≡ false = sym own ∙ is in cc)
+        by false own = (λ is. own, λ is. one_is (is_path q path) ∙ same_path)
+  among_by q b nothing_is false apart =
+      let other : q ≡ path → ⊥ =
+      λ e. both_ways (is_path q path) apart (subst (λ (p : List ℕ). is_path p path ≡ true) (sym e) (ap is_eq (tied_itself nat_list_cmp_total path))) in
+      by b (elsewhere q other) where
+        by : (b : Bool) → changes_nothing (effect_at history (with_change history change) q) ≡ true
+            → IsTrue (has_path (paths_of (cond b [] (record { path = path; delta = d } ∷ []))) q) ↔ (changes_nothing (effect_at history (with_change history change) q) ≡ false)
+        by true none = (λ never. let f : false ≡ true = never in cc, λ is. let f : true ≡ false = sym none ∙ is in cc)
+        by false none = (λ is. let f : false ≡ true = sym (one_is (is_path q path) ∙ apart) ∙ is in cc, λ is. let f : true ≡ false = sym none ∙ is in cc)
+
+  does_only : DoesOnly history change path d
+  does_only = record {
+    view = view_now;
+    effects = record {
+      exact = exact_by (changes_nothing d);
+      all = λ q. among_by q (changes_nothing d) refl (is_path q path) refl;
+      rising = rising_by (changes_nothing d);
+    };
+    here = here;
+    elsewhere = elsewhere;
+    views = views;
+  }
+
 made_does : (history : History) (actor : Actor) (path : List ℕ) (d : Cells) (grown : IsGrown history) (o : Option ElemId) → winner_at history path ≡ o
     → MayCome history (own_change history actor (ops_for history actor path d o)) → base_length d ≡ length (text_at history path) → IsNormal d
     → DoesOnly history (own_change history actor (ops_for history actor path d o)) path d
-made_does history actor path d grown None is may fits normal_d = record {
-  here = effect_begun history actor path d grown is may fits;
-  elsewhere = effect_not history actor path d grown is may fits;
-  views = view_before history actor path d grown is may fits;
-}
-made_does history actor path d grown (Some w) is may fits normal_d = record {
-  here = effect_there history actor path d grown w is may fits normal_d;
-  elsewhere = effect_nowhere history actor path d grown w is may fits normal_d;
-  views = view_still history actor path d grown w is may fits normal_d;
-}
+made_does history actor path d grown None is may fits normal_d =
+    does_only history (own_change history actor (ops_for history actor path d None)) path d grown may
+    (id_at (with_change history (own_change history actor (ops_for history actor path d None))) (name_of (own_change history actor (ops_for history actor path d None))) 0)
+    (winner_now history actor path d grown is may fits) (effect_begun history actor path d grown is may fits)
+    (effect_not history actor path d grown is may fits) (view_before history actor path d grown is may fits)
+made_does history actor path d grown (Some w) is may fits normal_d =
+    does_only history (own_change history actor (ops_for history actor path d (Some w))) path d grown may w
+    (winner_still history actor path d grown w is may fits normal_d path ∙ is) (effect_there history actor path d grown w is may fits normal_d)
+    (effect_nowhere history actor path d grown w is may fits normal_d) (view_still history actor path d grown w is may fits normal_d)
 
 pub made_does_only : (history : History) (actor : Actor) (path : List ℕ) (d : Cells) → IsGrown history → MayCome history (made history actor path d)
     → base_length d ≡ length (text_at history path) → IsNormal d → DoesOnly history (made history actor path d) path d

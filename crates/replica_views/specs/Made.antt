@@ -17,7 +17,7 @@ use Rattle.change_codec.specs.declared.ops.Parent.{Parent}
 use Rattle.change_codec.specs.declared.ops.Parent.TheVariants.{Root, After}
 use Rattle.change_codec.specs.declared.ops.Op.{Op}
 use Rattle.change_codec.specs.declared.ops.Op.TheVariants.{Make, Remove, Insert, Delete}
-use Rattle.change_graph.specs.History.{History, has_name}
+use Rattle.change_graph.specs.History.{History, has_name, with_change}
 use Rattle.replica_text.specs.Ids.{less}
 use Rattle.replica_text.specs.Made.{made_ops}
 use Rattle.replica_views.specs.Ids.{depth_above}
@@ -74,6 +74,10 @@ ops_for history actor path d (Some object) =
 -- the change that a daemon makes for a delta of the text at a path
 unfoldable pub made : History → Actor → List ℕ → Cells → Change
 made history actor path d = own_change history actor (ops_for history actor path d (winner_at history path))
+
+-- the history with the change that the daemon makes
+abbrev pub with_made : History → Actor → List ℕ → Cells → History
+with_made history actor path d = with_change history (made history actor path d)
 
 -- ---- removing a file
 

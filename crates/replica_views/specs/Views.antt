@@ -1,5 +1,5 @@
 -- What a history shows: the text at each path. All above speaks of a history by these words.
-use Rattle.std.specs.Prelude.{ℕ, List, [], Option, Some, None}
+use Rattle.std.specs.Prelude.{ℕ, List, [], length, Option, Some, None}
 use Rattle.std.specs.Option.{option_map, unwrap_or}
 use Rattle.tt_base.specs.declared.ids.ElemId.{ElemId}
 use Rattle.tt_base.specs.declared.elements.Element.{Element}
@@ -11,6 +11,10 @@ use Rattle.replica_views.specs.Texts.{elements_of}
 -- before the first change
 abbrev pub beginning : History
 beginning = []
+
+-- how many changes are held
+abbrev pub held : History → ℕ
+held history = length history
 
 -- the elements of the object that is read, and none where none is
 abbrev pub elements_in : History → Option ElemId → List Element

@@ -1,5 +1,5 @@
 //! What holds of the readings of a history. Each function has an empty body, and its contract is the law.
-ghost use Rattle.std.specs.Prelude.{◌≡◌, ℕ, ◌^◌, ◌≤◌, false, List, [], length};
+ghost use Rattle.std.specs.Prelude.{◌≡◌, ℕ, ◌+◌, ◌^◌, ◌≤◌, false, List, [], length};
 ghost use Rattle.delta.specs.Cells.{Cells, applied, base_length, IsNormal};
 ghost use Rattle.tt_base.specs.Elements.{AreDistinct};
 ghost use Rattle.tt_base.specs.declared.ids.Actor.{Actor};
@@ -23,7 +23,7 @@ ghost use Rattle.replica_views.specs.Laws.{DoesOnly, RemovesOnly};
 ghost use Rattle.replica_views.specs.Made.{heads_of, made, removed};
 ghost use Rattle.replica_views.specs.Objects.{IsDirectoryOf, winner_at};
 ghost use Rattle.replica_views.specs.Texts.{ops_on, text_ops, tree_of, elements_of};
-ghost use Rattle.replica_views.specs.Views.{view_at, text_at};
+ghost use Rattle.replica_views.specs.Views.{held, view_at, text_at};
 
 /// Histories that hold the same changes are one, and so they have equal views of every path: a view is read off the changes
 /// alone, and not off the order in which they came.
@@ -52,10 +52,12 @@ pub fn operations_of_a_history_are_possible()
     ensures { (history : History) → IsGrown history → (object : ElemId) → AllMayFollow (ops_on history object) (is_known []) }
 {}
 
-/// With one change more the tree of each object is the tree before with what the change does to it, wherever the change stands
+/// With one change more one more is held, and the tree of each object is the tree before with what the change does to it, wherever the change stands
 /// among the others by depth. So a text to which the operations are joined as they come is the reading of the history.
 pub fn a_change_adds_what_it_does()
-    ensures { (history : History) (change : Change) → IsGrown history → MayCome history change → (object : ElemId)
+    ensures held { (history : History) (change : Change) → IsGrown history → MayCome history change
+        → held (with_change history change) ≡ held history + 1 }
+    ensures trees { (history : History) (change : Change) → IsGrown history → MayCome history change → (object : ElemId)
         → tree_of (with_change history change) object
         ≡ after_ops (text_ops (with_change history change) (name_of change) object 0 change.ops) (tree_of history object) }
 {}
