@@ -20,3 +20,4 @@ pub mod NextLemmas
 pub mod DirectoryLemmas
 pub mod SameLemmas
 pub mod RemovedLemmas
+pub mod ToldLemmas

@@ -9,7 +9,7 @@ ghost use Rattle.change_codec.specs.Change.{Change};
 ghost use Rattle.change_codec.specs.Encoding.{change_format};
 ghost use Rattle.change_graph.specs.History.{History, change_at, is_held, name_of, with_change};
 ghost use Rattle.change_graph.specs.Answers.{IsHeads};
-ghost use Rattle.change_graph.specs.Depths.{IsDepths};
+ghost use Rattle.change_graph.specs.Depths.{IsDepths, IsDepth};
 ghost use Rattle.change_graph.specs.Histories.{IsHistory};
 ghost use Rattle.change_graph.specs.Refusals.{things};
 ghost use Rattle.replica_dir.specs.DirectoryView.{DirectoryView, IsWinner};
@@ -39,6 +39,12 @@ pub fn a_grown_history_is_one()
     ensures history { (history : History) → IsGrown history → IsHistory history }
     ensures depths { (history : History) → IsGrown history → IsDepths history (depth_at history) }
     ensures heads { (history : History) → IsGrown history → IsHeads history (heads_of history) }
+{}
+
+/// The heads and the depths that a graph tells of a grown history are those that the readings rest on.
+pub fn a_graph_tells_heads_and_depths()
+    ensures heads { (history : History) → IsGrown history → (heads : List Name) → IsHeads history heads → heads ≡ heads_of history }
+    ensures depths { (history : History) → IsGrown history → (name : Name) (depth : ℕ) → IsDepth history name depth → depth ≡ depth_at history name }
 {}
 
 /// The tree of each object is one: siblings fall, each id is greater than its parent's, and no two elements have one id.
