@@ -17,7 +17,10 @@ The third table has one operation in each row, with so many edits or positions. 
 growth from one size to the next is about 10; where the number of edits stays the same and no text is
 touched, it is about 1.
 
-The fourth table reads the frame of a body of so many bytes, cut into pieces. The fifth reads one URI again
+The fourth table has what a bridge takes for one keystroke of its editor, over 10,000 of them, by the length of the text and by how
+many of the daemon's deltas the editor has not shown: in microseconds, and how many times longer than with none.
+
+The fifth table reads the frame of a body of so many bytes, cut into pieces. The sixth reads one URI again
 and again, once as a plain one and once as one that needs the parser of URLs.
 """
 
@@ -36,6 +39,12 @@ TEXT_SIZES = (1_000, 10_000, 100_000, 1_000_000)
 SITES = ("front", "middle", "end", "random")
 
 SIZES = (10_000, 100_000, 1_000_000)
+
+# the program makes so many in one run
+TAKES = 10_000
+
+TAKE_SIZES = (1_000, 10_000, 100_000)
+UNCONFIRMED = (0, 1, 100)
 
 LARGE_BODY = 33_554_432
 PIECES = (1, 100, 65_536)
@@ -147,6 +156,18 @@ def print_changes():
         print(f"{operation:16} {count.__name__:>9}{columns(times)}   {growth(times)}")
 
 
+def print_takes():
+    print(f"{'µs a take, unconfirmed':26}" + "".join(f" {f'{size:,} (times)':>20}" for size in TAKE_SIZES))
+    none = {}
+    for unconfirmed in UNCONFIRMED:
+        row = f"{unconfirmed:>26}"
+        for size in TAKE_SIZES:
+            each = nanoseconds("take", size, unconfirmed, repeats=STROKE_REPEATS) / TAKES / 1000
+            none.setdefault(size, each)
+            row += f" {each:11.2f} {f'({each / none[size]:,.1f})':>8}"
+        print(row)
+
+
 def print_frames():
     sizes = (*SIZES, LARGE_BODY)
     print(f"{'frames, piece':26}" + "".join(f" {size:>12,}" for size in sizes) + "   growth              ns/byte")
@@ -166,7 +187,7 @@ def print_uris():
 def main():
     if not PROGRAM.exists():
         sys.exit(f"there is no {PROGRAM}: run `rt run` in crates/text_bench")
-    tables = (print_keystrokes, print_passes, print_changes, print_frames, print_uris)
+    tables = (print_keystrokes, print_passes, print_changes, print_takes, print_frames, print_uris)
     for i, print_table in enumerate(tables):
         if i:
             print()

@@ -22,6 +22,7 @@ mod pass_list;
 mod position;
 mod read_edit;
 mod read_open;
+mod take;
 mod to_edits;
 mod typed;
 mod uris;
@@ -54,6 +55,7 @@ fn run(rt: &(impl Clock + AllocGlobal), operation: &str, job: Job) -> Result<Mea
         "position_vector" => position::run_vector(rt, job),
         "read_edit" => read_edit::run(rt, job),
         "read_open" => read_open::run(rt, job),
+        "take" => take::run(rt, job),
         "to_edits" => to_edits::run(rt, job),
         "typed" => typed::run(rt, job),
         "typed_vector" => typed::run_vector(rt, job),
