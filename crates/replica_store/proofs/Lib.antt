@@ -1,2 +1,3 @@
 mod RecordLemmas
 mod Rows
+mod EncodedLemmas

@@ -2,6 +2,8 @@
 ghost use Rattle.std.specs.Prelude.{◌≡◌, ◌++◌, List, IsTrue};
 ghost use Rattle.tt_base.specs.declared.ids.Actor.{Actor};
 ghost use Rattle.change_codec.specs.Change.{Change};
+ghost use Rattle.change_codec.specs.Encoding.{change_format};
+ghost use Rattle.change_codec.specs.WellFormed.{IsWellFormed};
 ghost use Rattle.change_graph.specs.History.{History};
 ghost use Rattle.journal_format.specs.Image.{actor_is_first};
 ghost use Rattle.journal_format.specs.declared.records.Note.{Note};
@@ -58,4 +60,10 @@ pub fn a_store_makes_what_it_is_asked_for<D>()
         → MayCome old.history (made old.history old.actor path d)
         → IsMade old path d (with_staged old (made old.history old.actor path d)) (made_answer old path d) }
     ensures grown { (store : StoreView D) → IsStore store → IsGrown store.history }
+{}
+
+/// A change that is well formed has an encoding: an actor of 16 bytes, names of 32 that rise, paths, texts and counts that are not
+/// empty, and numbers that fit their fields are all that an encoding asks for. So this is what a store has to know of what it makes.
+pub fn well_formed_changes_have_encodings()
+    ensures { (change : Change) → IsWellFormed change → change_format.Fits change }
 {}
