@@ -1,5 +1,5 @@
 -- What a reader of records returned, against what reading gives: the value, or that some field is outside its format.
-use Rattle.std.specs.Prelude.{◌≡◌, Result, Ok, Err}
+use Rattle.std.specs.Prelude.{◌≡◌, Result, Ok, Err, IsOk}
 use Rattle.byte_format.specs.declared.faults.Outside.{Outside}
 use Rattle.byte_format.specs.declared.faults.ReadFault.{ReadFault}
 use Rattle.byte_format.specs.declared.faults.ReadFault.TheVariants as read_faults
@@ -20,6 +20,11 @@ FindsFault unread.Outside reading = IsOutside reading
 abbrev pub Finds : {X Y : Type 0} → (X → Y) → Result X Unread → Result Y Outside → Type 0
 Finds view (Ok x) reading = reading ≡ Ok (view x)
 Finds view (Err fault) reading = FindsFault fault reading
+
+-- want of memory is answered only for a value that reading gives
+abbrev pub WantsFor : {Y : Type 0} → Unread → Result Y Outside → Type 0
+WantsFor unread.Memory reading = IsOk reading
+WantsFor unread.Outside reading = Unit {0}
 
 -- why nothing was read, whatever the field
 abbrev pub unread_for : ReadFault → Unread

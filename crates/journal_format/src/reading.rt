@@ -1,6 +1,6 @@
 //! Reads records and groups. A reader of a field takes the bytes to the end and answers the value with the bytes
 //! behind it.
-ghost use Rattle.std.specs.Prelude.{◌≡◌};
+ghost use Rattle.std.specs.Prelude.{◌≡◌, IfErr};
 ghost use Rattle.byte_format.specs.Format.{whole};
 ghost use Rattle.byte_format.specs.Lists.{to_end};
 ghost use Rattle.byte_format.specs.Parts.{pair};
@@ -10,7 +10,7 @@ ghost use Rattle.journal_format.specs.Parts.{encoding_of};
 ghost use Rattle.change_codec.specs.Encoding.{change_format};
 ghost use Rattle.journal_format.specs.Encoding.{known_field, note_field, body_of, record_field};
 ghost use Rattle.journal_format.specs.Image.{group_field};
-ghost use Rattle.journal_format.specs.Read.{Finds};
+ghost use Rattle.journal_format.specs.Read.{Finds, WantsFor};
 
 use crate::records::{Known, Note, Record};
 use crate::unread::Unread;
@@ -68,7 +68,9 @@ fn read_noted(alloc: Global, bytes: &[u8]) -> Result<(SharedPath, Note), Unread>
 
 /// The bytes, where they encode a change.
 fn read_encoding(alloc: Global, bytes: &[u8]) -> Result<Blob, Unread>
-    ensures { Finds (λ blob. blob) result (whole (encoding_of change_format) bytes.now) }
+    ensures found { Finds (λ blob. blob) result (whole (encoding_of change_format) bytes.now) }
+    // Other bytes are refused whatever memory there is.
+    ensures wants { IfErr result (λ fault. WantsFor fault (whole (encoding_of change_format) bytes.now)) }
 {
     match read_change(alloc, bytes) {
         Ok(_change) => Ok(Blob::from_vec(Vec::from_slice(alloc, bytes)?)),

@@ -125,14 +125,24 @@ fn a_note_cut_at_any_byte_is_bad(rt: HostRuntime) -> Result<(), Fail> {
     is_bad_where_cut(&rt, &["030000000000000006000166020000"])
 }
 
-#[test]
-fn an_actor_behind_another_record_is_bad(rt: HostRuntime) -> Result<(), Fail> {
-    let record = bytes_of(&rt, &["01000000000000001000000000000000000000000000000001"])?;
+/// What stands as a whole behind the actor's record is no record there.
+fn is_bad_as_a_whole(rt: &(impl Abort + AllocGlobal), bytes: &str) -> Result<(), Fail> {
+    let record = bytes_of(rt, &[bytes])?;
     assert_eq!(rt;
-        cut_record(&rt, record.as_slice(), 25)?,
+        cut_record(rt, record.as_slice(), record.len())?,
         Err(BadGroups::BadRecord(4))
     );
     Ok(())
+}
+
+#[test]
+fn an_actor_behind_another_record_is_bad(rt: HostRuntime) -> Result<(), Fail> {
+    is_bad_as_a_whole(&rt, "01000000000000001000000000000000000000000000000001")
+}
+
+#[test]
+fn a_change_whose_bytes_encode_none_is_bad(rt: HostRuntime) -> Result<(), Fail> {
+    is_bad_as_a_whole(&rt, "020000000000000003545443")
 }
 
 /// Records of each kind, the actor's first.
