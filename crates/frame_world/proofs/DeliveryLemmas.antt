@@ -23,7 +23,7 @@ use Rattle.editor_client.specs.Hearing.{admitted, to_show, is_last_open, heard, 
 use Rattle.editor_client.specs.declared.notes.HeardNote.{HeardNote}
 use Rattle.editor_client.specs.declared.states.ClientState.{ClientState}
 use Rattle.editor_client.specs.declared.states.ClientState.TheVariants as client_state
-use Rattle.daemon_world.specs.Lines.{first_line, refused_line}
+use Rattle.plain_world.specs.Lines.{first_line, refused_line}
 use Rattle.frame_world.specs.Laws.{DoesAlike}
 use Rattle.frame_world.specs.Lines.{note_line}
 use Rattle.frame_world.specs.Seats.{Seat, IsDelivered}

@@ -43,7 +43,7 @@ use Rattle.daemon_core.specs.Refusing.{Step, ◌>>=◌, unless_bad_uri, open_lin
 use Rattle.daemon_core.specs.Serving.{with_change, changed, opening, on_message, or_refusal}
 use Rattle.daemon_core.specs.State.{Links, State, link_at, links_of, link_of}
 use Rattle.daemon_core.proofs.FileLemmas.{text_made}
-use Rattle.daemon_world.specs.Handling.{plain_step, verdict_of, cause_of}
+use Rattle.plain_world.specs.Handling.{plain_step, verdict_of, cause_of}
 use Rattle.frame_world.specs.Seats.{Seat}
 use Rattle.frame_world.specs.Serving.{sent_on, link_held, IsAt, answer_messages, plain_step_of, editor_after, HandlesAlike}
 use Rattle.frame_world.specs.Tie.{Ids, IsOf, Asks, IsBody, AreBodies, CanBeSent, Says, AreSaid, AreWritten, frame_of, IsTiedWith, IsTied}

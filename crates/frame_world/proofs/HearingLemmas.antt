@@ -31,8 +31,8 @@ use Rattle.editor_client.specs.Hearing.{if_fitting, to_show, with_shown, note_of
 use Rattle.editor_client.specs.declared.notes.HeardNote.TheVariants.{RefusedBy, Replied, Other}
 use Rattle.editor_client.specs.declared.states.ClientState.TheVariants.{Open, Closed}
 use Rattle.editor_client.proofs.HearingLemmas.{written_is_shown}
-use Rattle.daemon_world.specs.Handling.{cause_of}
-use Rattle.daemon_world.specs.Lines.{refused_line}
+use Rattle.plain_world.specs.Handling.{cause_of}
+use Rattle.plain_world.specs.Lines.{refused_line}
 use Rattle.frame_world.specs.Lines.{note_line}
 
 -- ---- frames and messages

@@ -15,7 +15,7 @@ use Rattle.daemon_core.specs.History.{text_at}
 use Rattle.daemon_core.specs.Outcome.{Outcome}
 use Rattle.daemon_core.specs.Outputs.{others_messages, outcome_of}
 use Rattle.daemon_core.specs.State.{State, is_number}
-use Rattle.daemon_world.specs.Lines.{first_line}
+use Rattle.plain_world.specs.Lines.{first_line}
 use Rattle.message_bytes.specs.Fitting.{IsCount}
 use Rattle.rpc_message.specs.declared.faults.MessageFault.{MessageFault}
 use Rattle.rpc_message.specs.declared.messages.Incoming.{Incoming}

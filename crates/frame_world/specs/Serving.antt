@@ -18,7 +18,7 @@ use Rattle.daemon_core.specs.State.{Links, State, is_number, link_at, links_of}
 use Rattle.daemon_core.specs.declared.events.Event.TheVariants.{EditorBegan, Ended, EditorFrame}
 use Rattle.daemon_core.specs.declared.events.Output.{Output}
 use Rattle.daemon_core.specs.declared.events.Output.TheVariants.{Send, Shutdown}
-use Rattle.daemon_world.specs.Handling.{first_step, verdict_of}
+use Rattle.plain_world.specs.Handling.{first_step, verdict_of}
 use Rattle.frame_world.specs.Seats.{Seat}
 use Rattle.frame_world.specs.Tie.{IsTied}
 

@@ -22,7 +22,7 @@ use Rattle.rpc_message.specs.declared.refusals.Refusal.{Refusal}
 use Rattle.message_bytes.specs.Fitting.{IsAnswerFitting}
 use Rattle.editor_client.specs.declared.states.ClientState.{ClientState}
 use Rattle.editor_client.specs.declared.states.ClientState.TheVariants as client_state
-use Rattle.daemon_world.specs.Handling.{cause_of}
+use Rattle.plain_world.specs.Handling.{cause_of}
 use Rattle.frame_world.specs.Seats.{Seat}
 
 -- a client's state

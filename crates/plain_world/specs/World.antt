@@ -5,7 +5,7 @@ use Rattle.std.specs.Prelude.{ℕ, ◌+◌, Bool, List, [], Option, Some, None, 
 use Rattle.bridge_world.specs.Plain as P
 use Rattle.rpc_frame.specs.Stream.{StreamEnd}
 use Rattle.daemon_core.specs.State.{State}
-use Rattle.daemon_world.specs.declared.TheConstants.{FIRST_OWN}
+use Rattle.plain_world.specs.declared.TheConstants.{FIRST_OWN}
 
 -- A daemon of the world, running or not. Its state has the connections that a script feeds, and beside each of these is
 -- what its reader keeps of the stream.

@@ -13,14 +13,14 @@ use Rattle.daemon_core.specs.Laws.{IsServing}
 use Rattle.daemon_core.specs.Outcome.{Outcome, state_told}
 use Rattle.daemon_core.specs.Serving.{or_refusal}
 use Rattle.daemon_core.proofs.ServeLemmas.{told_serving}
-use Rattle.daemon_world.specs.Handling.{Played, first_step, handled, handled_seat}
-use Rattle.daemon_world.specs.Playing.{quietly, with_seat, with_editor, new_host, new_seat, begins, joins, types, goes_up, goes_down, continued}
-use Rattle.daemon_world.specs.Playing.{again, all_up, settles, closes, opened_seat, opens_on, opens, cut_off, cuts, shows, tells_file, tells_held}
-use Rattle.daemon_world.specs.World.{Host, Seat, World, next_connection, host_of, running, seat_of}
-use Rattle.daemon_world.proofs.HandledLemmas.{first_handled}
-use Rattle.daemon_world.proofs.ListLemmas.{from_set, at_set, from_push, at_push, from_one_and_others}
-use Rattle.daemon_world.proofs.SeatLemmas.{Stands, stands_new, stands_typed, stands_opened, stands_closed, stands_lost, stands_delivered}
-use Rattle.daemon_world.proofs.WorldLemmas.{StandsAt, IsSeated, IsGood, seated_told}
+use Rattle.plain_world.specs.Handling.{Played, first_step, handled, handled_seat}
+use Rattle.plain_world.specs.Playing.{quietly, with_seat, with_editor, new_host, new_seat, begins, joins, types, goes_up, goes_down, continued}
+use Rattle.plain_world.specs.Playing.{again, all_up, settles, closes, opened_seat, opens_on, opens, cut_off, cuts, shows, tells_file, tells_held}
+use Rattle.plain_world.specs.World.{Host, Seat, World, next_connection, host_of, running, seat_of}
+use Rattle.plain_world.proofs.HandledLemmas.{first_handled}
+use Rattle.plain_world.proofs.ListLemmas.{from_set, at_set, from_push, at_push, from_one_and_others}
+use Rattle.plain_world.proofs.SeatLemmas.{Stands, stands_new, stands_typed, stands_opened, stands_closed, stands_lost, stands_delivered}
+use Rattle.plain_world.proofs.WorldLemmas.{StandsAt, IsSeated, IsGood, seated_told}
 
 -- a step that was possible behind another one
 pub record Found {A B : Type 0} (o : Option A) (f : A → Option B) (y : B) : Type 0 where

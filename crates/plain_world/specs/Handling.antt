@@ -13,8 +13,8 @@ use Rattle.daemon_core.specs.Outputs.{told_outputs}
 use Rattle.daemon_core.specs.Refusing.{Step, refused}
 use Rattle.daemon_core.specs.Serving.{opening, changed, or_refusal}
 use Rattle.daemon_core.specs.State.{State}
-use Rattle.daemon_world.specs.Lines.{told_lines}
-use Rattle.daemon_world.specs.World.{Host, Seat, World}
+use Rattle.plain_world.specs.Lines.{told_lines}
+use Rattle.plain_world.specs.World.{Host, Seat, World}
 
 -- As of any editor's message, but by the link without counts: an edit comes as its delta, and has no number that could be
 -- refused.

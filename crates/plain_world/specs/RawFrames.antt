@@ -4,18 +4,17 @@ use Rattle.std.specs.BTreeMap.{insert_entry}
 use Rattle.std.specs.Map.{lookup, set_value}
 use Rattle.std.specs.Ordering.{nat_cmp}
 use Rattle.bridge_world.specs.Lists.{only_if}
-use Rattle.rpc_frame.specs.ReaderView.{ReadsOn}
-use Rattle.rpc_frame.specs.Stream.{StreamEnd, Begun, Broken}
+use Rattle.rpc_frame.specs.Stream.{StreamEnd, Begun, Broken, Reads}
 use Rattle.rpc_message.specs.Messages.{message_of}
 use Rattle.daemon_core.specs.Outcome.{Outcome, state_after}
 use Rattle.daemon_core.specs.Outputs.{outcome_of, id_of, outputs, serve}
 use Rattle.daemon_core.specs.State.{is_number}
 use Rattle.daemon_core.specs.declared.events.Event.TheVariants.{EditorBegan, Ended}
-use Rattle.daemon_world.specs.Handling.{Played, told_seats}
-use Rattle.daemon_world.specs.Lines.{told_lines, hung_line}
-use Rattle.daemon_world.specs.Playing.{◌>>=◌, quietly, cut_off}
-use Rattle.daemon_world.specs.World.{Host, Seat, World, running}
-use Rattle.daemon_world.specs.declared.TheConstants.{FIRST_OWN, LONGEST_BODY}
+use Rattle.plain_world.specs.Handling.{Played, told_seats}
+use Rattle.plain_world.specs.Lines.{told_lines, hung_line}
+use Rattle.plain_world.specs.Playing.{◌>>=◌, quietly, cut_off}
+use Rattle.plain_world.specs.World.{Host, Seat, World, running}
+use Rattle.plain_world.specs.declared.TheConstants.{FIRST_OWN, LONGEST_BODY}
 
 -- what a reader of the daemon keeps of a connection's stream, where that is one that a script feeds
 abbrev pub kept_of : Host → ℕ → Option StreamEnd
@@ -91,18 +90,28 @@ abbrev pub then_keeps : StreamEnd → ℕ → ℕ → Played → Played
 then_keeps kept d c heard =
     let left = keeps kept d c heard.world in record { world = left.world; printed = heard.printed ++ left.printed }
 
--- how a piece of a stream is read: the bodies that end in it, and what is kept
+-- how a stream is read: the bodies of its whole frames, and what is left or the first fault
 pub record Reading : Type 0 where
   pub bodies : List (List ℕ)
   pub kept : StreamEnd
 
-abbrev pub raw_hears : World → ℕ → ℕ → Reading → Option Played
-raw_hears w d c reading = do
+-- The reading of each stream by the grammar of frames. There is one, and no other.
+pub record Reader : Type 0 where
+  pub read : List ℕ → Reading
+  pub right : (stream : List ℕ) → Reads LONGEST_BODY stream (read stream).bodies (read stream).kept
+
+-- what a piece gives behind what was kept; nothing comes behind a fault, since its connection has ended
+abbrev pub read_behind : Reader → StreamEnd → List ℕ → Reading
+read_behind reader (Begun kept) piece = reader.read (kept ++ piece)
+read_behind reader (Broken fault) piece = record { bodies = []; kept = Broken fault }
+
+-- the bodies of a piece come, and then what is left is kept
+abbrev pub heard_so : World → ℕ → ℕ → Reading → Played
+heard_so w d c reading = then_keeps reading.kept d c (raw_frames reading.bodies d c w)
+
+-- a piece of the stream of a connection comes
+abbrev pub raw_hears : Reader → World → ℕ → ℕ → List ℕ → Option Played
+raw_hears reader w d c piece = do
   h ← running w d
   kept ← kept_of h c
-  Some (then_keeps reading.kept d c (raw_frames reading.bodies d c w))
-
--- the reading is that of a piece, behind what the connection's reader kept
-abbrev pub IsReadingBehind : Option StreamEnd → List ℕ → Reading → Type 0
-IsReadingBehind None piece reading = Unit {0}
-IsReadingBehind (Some kept) piece reading = ReadsOn LONGEST_BODY kept piece reading.bodies reading.kept
+  Some (heard_so w d c (read_behind reader kept piece))

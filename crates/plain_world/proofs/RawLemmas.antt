@@ -11,15 +11,15 @@ use Rattle.daemon_core.specs.Outcome.{Outcome, state_after}
 use Rattle.daemon_core.specs.Outputs.{outcome_of}
 use Rattle.daemon_core.specs.State.{is_number}
 use Rattle.daemon_core.proofs.ServeLemmas.{began, ended, after_sound, outcome_sound}
-use Rattle.daemon_world.specs.Handling.{Played, told_seats}
-use Rattle.daemon_world.specs.Lines.{hung_line}
-use Rattle.daemon_world.specs.Playing.{quietly, cut_off}
-use Rattle.daemon_world.specs.RawFrames.{Reading, kept_of, with_host, raw_begins, without_raw, raw_ends, stopped, lost_with, stops_if, raw_frame, if_runs, raw_frames, keeps, then_keeps, raw_hears}
-use Rattle.daemon_world.specs.World.{Host, Seat, World, running, host_of}
-use Rattle.daemon_world.proofs.ListLemmas.{from_set, from_map, at_set, beside_set}
-use Rattle.daemon_world.proofs.StepLemmas.{Keeps, found_then, allowed_if, there_running, shown_good}
-use Rattle.daemon_world.proofs.SeatLemmas.{Stands, stands_lost}
-use Rattle.daemon_world.proofs.WorldLemmas.{IsSeated, IsGood, seated_told}
+use Rattle.plain_world.specs.Handling.{Played, told_seats}
+use Rattle.plain_world.specs.Lines.{hung_line}
+use Rattle.plain_world.specs.Playing.{quietly, cut_off}
+use Rattle.plain_world.specs.RawFrames.{Reading, Reader, read_behind, heard_so, kept_of, with_host, raw_begins, without_raw, raw_ends, stopped, lost_with, stops_if, raw_frame, if_runs, raw_frames, keeps, then_keeps, raw_hears}
+use Rattle.plain_world.specs.World.{Host, Seat, World, running, host_of}
+use Rattle.plain_world.proofs.ListLemmas.{from_set, from_map, at_set, beside_set}
+use Rattle.plain_world.proofs.StepLemmas.{Keeps, found_then, allowed_if, there_running, shown_good}
+use Rattle.plain_world.proofs.SeatLemmas.{Stands, stands_lost}
+use Rattle.plain_world.proofs.WorldLemmas.{IsSeated, IsGood, seated_told}
 
 -- the files of a daemon are as before
 seated_same : (hosts : List Host) (d : ℕ) (h next : Host) (x : Seat) → slice_get hosts d ≡ Some h
@@ -162,12 +162,13 @@ keeps_good (Broken fault) d c w good = by (running w d) refl where
   by None is = good
   by (Some h) is = without_good w d c h good (there_running w d h is)
 
-pub raw_hears_good : (w : World) (d c : ℕ) (reading : Reading) → IsGood w → Keeps (raw_hears w d c reading)
-raw_hears_good w d c reading good next played =
+pub raw_hears_good : (reader : Reader) (w : World) (d c : ℕ) (piece : List ℕ) → IsGood w → Keeps (raw_hears reader w d c piece)
+raw_hears_good reader w d c piece good next played =
     let h = found_then (running w d) _ next played in
     let kept = found_then (kept_of h.item c) _ next h.next in
+    let reading : Reading = read_behind reader kept.item piece in
     let heard : Played = raw_frames reading.bodies d c w in
     let after : IsGood (keeps reading.kept d c heard.world).world = keeps_good reading.kept d c heard.world (frames_good reading.bodies d c w good) in
-    let same : Some (then_keeps reading.kept d c heard) ≡ Some next = kept.next in
-    let one : then_keeps reading.kept d c heard ≡ next = cc in
+    let same : Some (heard_so w d c reading) ≡ Some next = kept.next in
+    let one : heard_so w d c reading ≡ next = cc in
     subst (λ (p : Played). IsGood p.world) one after

@@ -10,39 +10,39 @@ use Rattle.bridge_world.specs.Tie.{Good, Ordered, place, reached}
 use Rattle.file_uri.specs.Base.{BaseView}
 use Rattle.replay_script.specs.declared.moves.Move.{Move}
 use Rattle.daemon_core.specs.History.{text_at}
-use Rattle.daemon_world.specs.Laws.{QuietShowsFile}
-use Rattle.daemon_world.specs.Lines.{word_of}
-use Rattle.daemon_world.specs.RawFrames.{Reading}
-use Rattle.daemon_world.specs.Step.{played, Leads, Begins, Then}
-use Rattle.daemon_world.specs.World.{Seat, World, is_connected}
-use Rattle.daemon_world.proofs.RawLemmas.{raw_begins_good, raw_ends_good, raw_hears_good}
-use Rattle.daemon_world.proofs.SeatLemmas.{Stands, stands_quiet, none_mapped}
-use Rattle.daemon_world.proofs.StepLemmas.{Keeps, begins_good, joins_good, types_good, up_good, down_good, settles_good, closes_good, opens_good, cuts_good, shows_good, file_good, held_good}
-use Rattle.daemon_world.proofs.WorldLemmas.{IsGood}
+use Rattle.plain_world.specs.Laws.{QuietShowsFile}
+use Rattle.plain_world.specs.Lines.{word_of}
+use Rattle.plain_world.specs.RawFrames.{Reader}
+use Rattle.plain_world.specs.Step.{played, Leads, Begins, Then}
+use Rattle.plain_world.specs.World.{Seat, World, is_connected}
+use Rattle.plain_world.proofs.RawLemmas.{raw_begins_good, raw_ends_good, raw_hears_good}
+use Rattle.plain_world.proofs.SeatLemmas.{Stands, stands_quiet, none_mapped}
+use Rattle.plain_world.proofs.StepLemmas.{Keeps, begins_good, joins_good, types_good, up_good, down_good, settles_good, closes_good, opens_good, cuts_good, shows_good, file_good, held_good}
+use Rattle.plain_world.proofs.WorldLemmas.{IsGood}
 
-played_good : (base : BaseView) (reading : Reading) (w : World) (moved : Move) → IsGood w → Keeps (played base reading w moved)
-played_good base reading w (Move.Daemon d) good = begins_good base w d good
-played_good base reading w (Move.Editor e d path text) good = joins_good w e d path text good
-played_good base reading w (Move.Typed e place gone text) good = types_good w e place gone text good
-played_good base reading w (Move.Up e) good = up_good w e good
-played_good base reading w (Move.Down e) good = down_good w e good
-played_good base reading w (Move.Settle e) good = settles_good w e good
-played_good base reading w (Move.Close e) good = closes_good w e good
-played_good base reading w (Move.Open e) good = opens_good w e good
-played_good base reading w (Move.Cut e) good = cuts_good w e good
-played_good base reading w (Move.Show e) good = shows_good w e good
-played_good base reading w (Move.File d path) good = file_good w d path good
-played_good base reading w (Move.Held d) good = held_good w d good
-played_good base reading w (Move.BeginEditor d c) good = raw_begins_good w d c good
-played_good base reading w (Move.Hear d c piece) good = raw_hears_good w d c reading good
-played_good base reading w (Move.End d c) good = raw_ends_good w d c good
-played_good base reading w moved good = λ next never. cc
+played_good : (base : BaseView) (reader : Reader) (w : World) (moved : Move) → IsGood w → Keeps (played base reader w moved)
+played_good base reader w (Move.Daemon d) good = begins_good base w d good
+played_good base reader w (Move.Editor e d path text) good = joins_good w e d path text good
+played_good base reader w (Move.Typed e place gone text) good = types_good w e place gone text good
+played_good base reader w (Move.Up e) good = up_good w e good
+played_good base reader w (Move.Down e) good = down_good w e good
+played_good base reader w (Move.Settle e) good = settles_good w e good
+played_good base reader w (Move.Close e) good = closes_good w e good
+played_good base reader w (Move.Open e) good = opens_good w e good
+played_good base reader w (Move.Cut e) good = cuts_good w e good
+played_good base reader w (Move.Show e) good = shows_good w e good
+played_good base reader w (Move.File d path) good = file_good w d path good
+played_good base reader w (Move.Held d) good = held_good w d good
+played_good base reader w (Move.BeginEditor d c) good = raw_begins_good w d c good
+played_good base reader w (Move.Hear d c piece) good = raw_hears_good reader w d c piece good
+played_good base reader w (Move.End d c) good = raw_ends_good w d c good
+played_good base reader w moved good = λ next never. cc
 
 -- each world that moves lead to
-pub reached_good : (base : BaseView) (moves : List Move) (w : World) (printed : List ℕ) → Leads base moves w printed → IsGood w
-reached_good base _ _ _ Begins = record { serve = λ d h found. cc; seated = λ e x found. cc }
-reached_good base _ _ _ (Then moves w printed moved next led step) =
-    played_good base step.reading w moved (reached_good base moves w printed led) next (sym step.is)
+pub reached_good : (base : BaseView) (reader : Reader) (moves : List Move) (w : World) (printed : List ℕ) → Leads base reader moves w printed → IsGood w
+reached_good base reader _ _ _ Begins = record { serve = λ d h found. cc; seated = λ e x found. cc }
+reached_good base reader _ _ _ (Then moves w printed moved next led step) =
+    played_good base reader w moved (reached_good base reader moves w printed led) next step
 
 -- an editor that is told to be quiet is open, with nothing under way
 pub record IsIdle (x : P.Editor) : Type 0 where
@@ -86,8 +86,8 @@ idle_if_quiet x view h word =
           absurd (never_waits view x.editor h is (empty x.editor.sent sent) (empty x.editor.wire wire))
 
 pub quiet_shows_file : QuietShowsFile
-quiet_shows_file base moves w printed e x led found word =
-    let seated = (reached_good base moves w printed led).seated e x found in
+quiet_shows_file base reader moves w printed e x led found word =
+    let seated = (reached_good base reader moves w printed led).seated e x found in
     let view : List ℕ = text_at seated.host.state.history x.path in
     let idle = idle_if_quiet x view seated.stands word in
     record {

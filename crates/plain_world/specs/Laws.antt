@@ -3,9 +3,10 @@ use Rattle.std.specs.Prelude.{◌≡◌, ℕ, List, Some, codes}
 use Rattle.file_uri.specs.Base.{BaseView}
 use Rattle.replay_script.specs.declared.moves.Move.{Move}
 use Rattle.daemon_core.specs.History.{text_at}
-use Rattle.daemon_world.specs.Lines.{word_of}
-use Rattle.daemon_world.specs.Step.{Leads}
-use Rattle.daemon_world.specs.World.{Host, Seat, World, host_of, seat_of}
+use Rattle.plain_world.specs.Lines.{word_of}
+use Rattle.plain_world.specs.RawFrames.{Reader}
+use Rattle.plain_world.specs.Step.{Leads}
+use Rattle.plain_world.specs.World.{Host, Seat, World, host_of, seat_of}
 
 -- the editor's daemon is there, and the editor shows the text of its file there
 pub record ShowsFile (w : World) (x : Seat) : Type 0 where
@@ -16,5 +17,5 @@ pub record ShowsFile (w : World) (x : Seat) : Type 0 where
 -- an editor that is told to be quiet shows its daemon's text
 abbrev pub QuietShowsFile : Type 0
 QuietShowsFile =
-    (base : BaseView) (moves : List Move) (w : World) (printed : List ℕ) (e : ℕ) (x : Seat) → Leads base moves w printed
+    (base : BaseView) (reader : Reader) (moves : List Move) (w : World) (printed : List ℕ) (e : ℕ) (x : Seat) → Leads base reader moves w printed
     → seat_of w e ≡ Some x → word_of x ≡ codes "quiet" → ShowsFile w x

@@ -12,10 +12,10 @@ use Rattle.daemon_core.specs.Outcome.{Effect, Outcome, effects_of}
 use Rattle.daemon_core.specs.State.{State}
 use Rattle.daemon_core.proofs.FileLemmas.{text_made, text_elsewhere, path_same, is_path_back}
 use Rattle.daemon_core.proofs.StepLemmas.{IsChange, Quiet, Made}
-use Rattle.daemon_world.specs.Handling.{told_seat, told_seats}
-use Rattle.daemon_world.specs.World.{Host, Seat, World}
-use Rattle.daemon_world.proofs.ListLemmas.{at_set, beside_set}
-use Rattle.daemon_world.proofs.SeatLemmas.{Stands, stands_told}
+use Rattle.plain_world.specs.Handling.{told_seat, told_seats}
+use Rattle.plain_world.specs.World.{Host, Seat, World}
+use Rattle.plain_world.proofs.ListLemmas.{at_set, beside_set}
+use Rattle.plain_world.proofs.SeatLemmas.{Stands, stands_told}
 
 -- an editor stands to the text of its file at a daemon in this state
 abbrev pub StandsAt : State → Seat → Type 0

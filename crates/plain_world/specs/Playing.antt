@@ -8,10 +8,10 @@ use Rattle.text_position.specs.Edits.{replacing}
 use Rattle.file_uri.specs.Base.{BaseView}
 use Rattle.daemon_core.specs.History.{view_at}
 use Rattle.daemon_core.specs.State.{new_state}
-use Rattle.daemon_world.specs.Handling.{Played, handled}
-use Rattle.daemon_world.specs.Lines.{first_line, show_line, file_line, held_line}
-use Rattle.daemon_world.specs.World.{Host, Seat, World, next_connection, running, seat_of, is_connected}
-use Rattle.daemon_world.specs.declared.TheConstants.{MOST_DAEMONS, MOST_EDITORS, LONGEST_SENT}
+use Rattle.plain_world.specs.Handling.{Played, handled}
+use Rattle.plain_world.specs.Lines.{first_line, show_line, file_line, held_line}
+use Rattle.plain_world.specs.World.{Host, Seat, World, next_connection, running, seat_of, is_connected}
+use Rattle.plain_world.specs.declared.TheConstants.{MOST_DAEMONS, MOST_EDITORS, LONGEST_SENT}
 
 -- the next step, where this one was possible
 infixl 10 ◌>>=◌

@@ -15,8 +15,8 @@ use Rattle.daemon_core.specs.Serving.{with_change, opening, or_refusal}
 use Rattle.daemon_core.specs.State.{State}
 use Rattle.daemon_core.proofs.FileLemmas.{text_made}
 use Rattle.daemon_core.proofs.StepLemmas.{IsChange, Quiet, Made}
-use Rattle.daemon_world.specs.Handling.{plain_step, first_step, verdict_of, cause_of}
-use Rattle.daemon_world.proofs.SeatLemmas.{Stands, stands_told, stands_handled, effect_fits}
+use Rattle.plain_world.specs.Handling.{plain_step, first_step, verdict_of, cause_of}
+use Rattle.plain_world.proofs.SeatLemmas.{Stands, stands_told, stands_handled, effect_fits}
 
 -- what a step of a message makes of the editor that sent it, and of the files
 pub record IsHandled (s : State) (path : List ℕ) (x : P.Editor) (step : Step Outcome) : Type 0 where

@@ -9,7 +9,7 @@ use Rattle.rpc_message.specs.Codes.{code}
 use Rattle.rpc_message.specs.declared.refusals.Refusal.TheVariants as refusal
 use Rattle.daemon_core.specs.declared.events.Output.{Output}
 use Rattle.daemon_core.specs.declared.events.Output.TheVariants.{Send, Shutdown}
-use Rattle.daemon_world.specs.World.{Seat, is_connected}
+use Rattle.plain_world.specs.World.{Seat, is_connected}
 
 -- whether something is under way between an editor and its daemon
 abbrev pub is_busy : P.Editor → Bool

@@ -1,3 +1,4 @@
+pub mod Base
 pub mod World
 pub mod Lines
 pub mod Handling

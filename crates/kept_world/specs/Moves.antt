@@ -1,0 +1,174 @@
+-- What each move makes of a world that a program keeps, and where it is possible.
+use Rattle.std.specs.Prelude.{◌≡◌, ℕ, zero, suc, Bool, true, false, ◌&&◌, not, nat_lt, List, [], ◌∷◌, ◌++◌, length, Option, Some, None, is_some, option_and_then}
+use Rattle.std.specs.Map.{set_value}
+use Rattle.file_uri.specs.Base.{BaseView}
+use Rattle.replay_script.specs.declared.moves.Move.{Move}
+use Rattle.rpc_frame.specs.Stream.{StreamEnd, Begun, Broken}
+use Rattle.editor_client.specs.Editor.{Editor, change_at}
+use Rattle.editor_client.specs.declared.notes.HeardNote.{HeardNote}
+use Rattle.daemon_core.specs.State.{is_number}
+use Rattle.daemon_core.specs.declared.events.Event.TheVariants.{EditorFrame}
+use Rattle.frame_world.specs.Laws.{IsClientOf, IsChangeOf}
+use Rattle.frame_world.specs.Lines.{note_line}
+use Rattle.frame_world.specs.Seats.{Seat, IsDelivered}
+use Rattle.plain_world.specs.Lines.{hung_line}
+use Rattle.plain_world.specs.RawFrames.{Reader, Reading, read_behind}
+use Rattle.kept_world.specs.Events.{KeptPlayed, IsEvent}
+use Rattle.kept_world.specs.Steps.{quietly, new_client, begins, joins, types, closes, opens, cuts, shows, tells_file, tells_held, kept_of, raw_begins, without_raw, raw_ends}
+use Rattle.kept_world.specs.Worlds.{KeptHost, KeptEditor, KeptWorld, running, editor_of, with_host, with_seat}
+
+-- What an editor does itself. Its client is one of the file at its path: what it has is characters, and its counts fit in 64 bits.
+
+-- the client of an editor that is there is one of a file below the base
+abbrev pub HasClient : BaseView → KeptWorld → ℕ → Type 0
+HasClient base k e = (x : KeptEditor) → editor_of k e ≡ Some x → IsClientOf base x.path x.seat.client
+
+pub record IsJoined (base : BaseView) (k : KeptWorld) (e d : ℕ) (path text : List ℕ) (p : KeptPlayed) : Type 0 where
+  pub is : joins k e d path text ≡ Some p
+  pub client : (h : KeptHost) → running k d ≡ Some h → IsClientOf base path (new_client h path text)
+
+pub record IsTyped (base : BaseView) (k : KeptWorld) (e place gone : ℕ) (text : List ℕ) (p : KeptPlayed) : Type 0 where
+  pub is : types k e place gone text ≡ Some p
+  pub client : HasClient base k e
+  pub change : (x : KeptEditor) → editor_of k e ≡ Some x → IsChangeOf x.seat.client (change_at place gone text)
+
+pub record IsClosed (base : BaseView) (k : KeptWorld) (e : ℕ) (p : KeptPlayed) : Type 0 where
+  pub is : closes k e ≡ Some p
+  pub client : HasClient base k e
+
+pub record IsOpened (base : BaseView) (k : KeptWorld) (e : ℕ) (p : KeptPlayed) : Type 0 where
+  pub is : opens k e ≡ Some p
+  pub client : HasClient base k e
+
+-- What is delivered.
+
+-- the first body under way from an editor comes to its daemon
+pub record IsUp (k : KeptWorld) (e : ℕ) (p : KeptPlayed) : Type 0 where
+  pub editor : KeptEditor
+  pub there : editor_of k e ≡ Some editor
+  pub number : ℕ
+  pub connection : editor.connection ≡ Some number
+  pub body : List ℕ
+  pub rest : List (List ℕ)
+  pub first : editor.seat.up ≡ body ∷ rest
+  pub event : IsEvent (with_seat k e editor (record editor.seat { up = rest })) editor.daemon (EditorFrame number body) p
+
+-- the first frame under way to an editor comes to it
+pub record IsDown (k : KeptWorld) (e : ℕ) (p : KeptPlayed) : Type 0 where
+  pub editor : KeptEditor
+  pub there : editor_of k e ≡ Some editor
+  pub note : HeardNote
+  pub after : Seat
+  pub delivered : IsDelivered editor.seat note after
+  pub is : p ≡ record { world = with_seat k e editor after; printed = note_line e note }
+
+-- what was played, and then more
+abbrev pub then_played : KeptPlayed → KeptPlayed → KeptPlayed
+then_played first next = record { world = next.world; printed = first.printed ++ next.printed }
+
+-- a move, so many times
+pub data Repeats (Does : KeptWorld → KeptPlayed → Type 0) : ℕ → KeptWorld → KeptPlayed → Type 0 where
+  Never : (k : KeptWorld) → Repeats Does 0 k (quietly k)
+  Once_more : (n : ℕ) (k : KeptWorld) (first next : KeptPlayed) → Does k first → Repeats Does n first.world next
+      → Repeats Does (suc n) k (then_played first next)
+
+-- all that is under way from an editor comes to its daemon, and then all that is under way to it comes to it
+pub record IsSettled (k : KeptWorld) (e : ℕ) (p : KeptPlayed) : Type 0 where
+  pub before : KeptEditor
+  pub there : editor_of k e ≡ Some before
+  pub connected : is_some before.connection ≡ true
+  pub up : KeptPlayed
+  pub goes_up : Repeats (λ v. IsUp v e) (length before.seat.up) k up
+  pub between : KeptEditor
+  pub still : editor_of up.world e ≡ Some between
+  pub down : KeptPlayed
+  pub goes_down : Repeats (λ v. IsDown v e) (length between.seat.down) up.world down
+  pub is : p ≡ then_played up down
+
+-- Connections that a script feeds.
+
+-- bodies come in turn to a daemon; those behind a shutdown come to nobody
+pub data Hears (d c : ℕ) : List (List ℕ) → KeptWorld → KeptPlayed → Type 0 where
+  Done : (k : KeptWorld) → Hears d c [] k (quietly k)
+  Stopped : (body : List ℕ) (bodies : List (List ℕ)) (k : KeptWorld) → running k d ≡ None → Hears d c (body ∷ bodies) k (quietly k)
+  Next : (body : List ℕ) (bodies : List (List ℕ)) (k : KeptWorld) (first next : KeptPlayed) → IsEvent k d (EditorFrame c body) first
+      → Hears d c bodies first.world next → Hears d c (body ∷ bodies) k (then_played first next)
+
+-- what is kept of the stream; a connection whose frames have a fault has ended
+abbrev pub keeps_at : StreamEnd → ℕ → ℕ → KeptWorld → KeptHost → KeptPlayed
+keeps_at (Begun bytes) d c k h =
+    quietly (with_host k d (record h { readers = set_value (is_number c) h.readers (Begun bytes) }))
+keeps_at (Broken fault) d c k h = record { world = with_host k d (without_raw c h); printed = hung_line d c }
+
+abbrev pub if_runs : Option KeptHost → (KeptHost → KeptPlayed) → KeptWorld → KeptPlayed
+if_runs None next k = quietly k
+if_runs (Some h) next k = next h
+
+abbrev pub keeps : StreamEnd → ℕ → ℕ → KeptWorld → KeptPlayed
+keeps kept d c k = if_runs (running k d) (keeps_at kept d c k) k
+
+pub record IsHeardOn (reader : Reader) (k : KeptWorld) (d c : ℕ) (piece : List ℕ) (p : KeptPlayed) : Type 0 where
+  pub host : KeptHost
+  pub runs : running k d ≡ Some host
+  pub kept : StreamEnd
+  pub known : kept_of host c ≡ Some kept
+  pub bodies : KeptPlayed
+  pub hears : Hears d c (read_behind reader kept piece).bodies k bodies
+  pub is : p ≡ then_played bodies (keeps (read_behind reader kept piece).kept d c bodies.world)
+
+-- Moves.
+
+-- what a move makes of the world: the next world and what is printed
+abbrev pub IsMove : BaseView → Reader → KeptWorld → Move → KeptPlayed → Type 0
+IsMove base reader k (Move.Daemon d) p = begins base k d ≡ Some p
+IsMove base reader k (Move.Editor e d path text) p = IsJoined base k e d path text p
+IsMove base reader k (Move.Typed e place gone text) p = IsTyped base k e place gone text p
+IsMove base reader k (Move.Up e) p = IsUp k e p
+IsMove base reader k (Move.Down e) p = IsDown k e p
+IsMove base reader k (Move.Settle e) p = IsSettled k e p
+IsMove base reader k (Move.Close e) p = IsClosed base k e p
+IsMove base reader k (Move.Open e) p = IsOpened base k e p
+IsMove base reader k (Move.Cut e) p = cuts k e ≡ Some p
+IsMove base reader k (Move.Show e) p = shows k e ≡ Some p
+IsMove base reader k (Move.File d path) p = tells_file k d path ≡ Some p
+IsMove base reader k (Move.Held d) p = tells_held k d ≡ Some p
+IsMove base reader k (Move.BeginEditor d c) p = raw_begins k d c ≡ Some p
+IsMove base reader k (Move.Hear d c piece) p = IsHeardOn reader k d c piece p
+IsMove base reader k (Move.End d c) p = raw_ends k d c ≡ Some p
+IsMove base reader k moved p = ⊥
+
+-- whether something is under way from an editor, and to it
+abbrev pub has_up : Option KeptEditor → Bool
+has_up None = false
+has_up (Some x) = nat_lt 0 (length x.seat.up)
+
+abbrev pub has_down : Option KeptEditor → Bool
+has_down None = false
+has_down (Some x) = nat_lt 0 (length x.seat.down)
+
+abbrev pub is_connected : Option KeptEditor → Bool
+is_connected None = false
+is_connected (Some x) = is_some x.connection
+
+-- whether a connection is one that the script feeds
+abbrev pub is_fed : KeptWorld → ℕ → ℕ → Bool
+is_fed k d c = is_some (option_and_then (λ h. kept_of h c) (running k d))
+
+-- whether a move is possible
+abbrev pub can_move : BaseView → KeptWorld → Move → Bool
+can_move base k (Move.Daemon d) = is_some (begins base k d)
+can_move base k (Move.Editor e d path text) = is_some (joins k e d path text)
+can_move base k (Move.Typed e place gone text) = is_some (types k e place gone text)
+can_move base k (Move.Up e) = has_up (editor_of k e)
+can_move base k (Move.Down e) = has_down (editor_of k e)
+can_move base k (Move.Settle e) = is_connected (editor_of k e)
+can_move base k (Move.Close e) = is_some (closes k e)
+can_move base k (Move.Open e) = is_some (opens k e)
+can_move base k (Move.Cut e) = is_some (cuts k e)
+can_move base k (Move.Show e) = is_some (shows k e)
+can_move base k (Move.File d path) = is_some (tells_file k d path)
+can_move base k (Move.Held d) = is_some (tells_held k d)
+can_move base k (Move.BeginEditor d c) = is_some (raw_begins k d c)
+can_move base k (Move.Hear d c piece) = is_fed k d c
+can_move base k (Move.End d c) = is_some (raw_ends k d c)
+can_move base k moved = false
