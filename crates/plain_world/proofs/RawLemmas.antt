@@ -14,7 +14,7 @@ use Rattle.daemon_core.proofs.ServeLemmas.{began, ended, after_sound, outcome_so
 use Rattle.plain_world.specs.Handling.{Played, told_seats}
 use Rattle.plain_world.specs.Lines.{hung_line}
 use Rattle.plain_world.specs.Playing.{quietly, cut_off}
-use Rattle.plain_world.specs.RawFrames.{Reading, Reader, read_behind, heard_so, kept_of, with_host, raw_begins, without_raw, raw_ends, stopped, lost_with, stops_if, raw_frame, if_runs, raw_frames, keeps, then_keeps, raw_hears}
+use Rattle.plain_world.specs.RawFrames.{Reading, Reader, read_behind, heard_so, kept_of, with_host, raw_begins, without_raw, raw_ends, stopped, lost_with, stops_if, raw_frame, if_runs, raw_frames, keeps, raw_hears}
 use Rattle.plain_world.specs.World.{Host, Seat, World, running, host_of}
 use Rattle.plain_world.proofs.ListLemmas.{from_set, from_map, at_set, beside_set}
 use Rattle.plain_world.proofs.StepLemmas.{Keeps, found_then, allowed_if, there_running, shown_good}

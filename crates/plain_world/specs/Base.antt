@@ -1,5 +1,5 @@
 -- The directory that the daemons of scripts serve.
-use Rattle.std.specs.Prelude.{List, [], codes, Result, Ok, Err}
+use Rattle.std.specs.Prelude.{[], codes, Result, Ok, Err}
 use Rattle.file_uri.specs.Base.{BaseView, base_of}
 use Rattle.file_uri.specs.declared.faults.UriFault.{UriFault}
 
