@@ -9,6 +9,7 @@ use Rattle.file_uri.specs.Base.{BaseView, IsBase}
 use Rattle.file_uri.specs.PathOf.{path_of}
 use Rattle.file_uri.specs.UriOf.{uri_of}
 use Rattle.daemon_core.specs.History.{text_at}
+use Rattle.daemon_core.specs.Laws.{IsServing}
 use Rattle.daemon_core.specs.State.{Links, State, is_number}
 use Rattle.frame_world.specs.Serving.{IsAt}
 use Rattle.frame_world.specs.Tie.{IsTied}
@@ -33,6 +34,8 @@ pub record IsTiedHost (base : BaseView) (next : ℕ) (h : KeptHost) (g : P.Host)
   pub history : g.state.history ≡ h.state.history
   pub connections : g.state.connections ≡ filter is_fed_one h.state.connections
   pub readers : g.readers ≡ h.readers
+  -- each link of the daemon is as it should be
+  pub serves : IsServing h.state
   -- each connection has one number, and the next one is new
   pub rising : IsStrictlySortedBy nat_cmp (numbers_of h.state)
   pub below : All (λ (n : ℕ). n < next) (numbers_of h.state)
