@@ -4,10 +4,12 @@ use Rattle.std.specs.List.{AllZip}
 use Rattle.std.specs.List.Sorted.{IsStrictlySortedBy}
 use Rattle.std.specs.Ordering.{nat_cmp}
 use Rattle.bridge_world.specs.Counted as N
+use Rattle.bridge_world.specs.Lists.{Each}
 use Rattle.bridge_world.specs.Tie.{Good}
 use Rattle.file_uri.specs.Base.{BaseView, IsBase}
 use Rattle.file_uri.specs.PathOf.{path_of}
 use Rattle.file_uri.specs.UriOf.{uri_of}
+use Rattle.rpc_frame.specs.Stream.{StreamEnd}
 use Rattle.daemon_core.specs.History.{text_at}
 use Rattle.daemon_core.specs.Laws.{IsServing}
 use Rattle.daemon_core.specs.State.{Links, State, is_number}
@@ -34,6 +36,8 @@ pub record IsTiedHost (base : BaseView) (next : ℕ) (h : KeptHost) (g : P.Host)
   pub history : g.state.history ≡ h.state.history
   pub connections : g.state.connections ≡ filter is_fed_one h.state.connections
   pub readers : g.readers ≡ h.readers
+  -- each connection that has a reader is one that the script feeds
+  pub fed : Each (λ (r : ℕ × StreamEnd). nat_lt r.0 FIRST_OWN ≡ true) h.readers
   -- each link of the daemon is as it should be
   pub serves : IsServing h.state
   -- each connection has one number, and the next one is new
