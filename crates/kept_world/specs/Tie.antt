@@ -27,10 +27,6 @@ is_fed_one c = nat_lt c.0 FIRST_OWN
 abbrev pub numbers_of : State → List ℕ
 numbers_of s = map (λ (c : ℕ × Links). c.0) s.connections
 
--- the connections that the script feeds
-abbrev pub fed_by : KeptHost → List ℕ
-fed_by h = map (λ (r : ℕ × StreamEnd). r.0) h.readers
-
 -- A daemon that runs has the files of the plain one, and of its connections the plain one has those that the script feeds.
 pub record IsTiedHost (base : BaseView) (next : ℕ) (h : KeptHost) (g : P.Host) : Type 0 where
   pub runs : g.runs ≡ true
@@ -44,8 +40,6 @@ pub record IsTiedHost (base : BaseView) (next : ℕ) (h : KeptHost) (g : P.Host)
   pub fed : Each (λ (r : ℕ × StreamEnd). nat_lt r.0 FIRST_OWN ≡ true) h.readers
   -- each link of the daemon is as it should be
   pub serves : IsServing h.state
-  -- the script feeds none of its own
-  pub fed : All (λ (n : ℕ). n < FIRST_OWN) (fed_by h)
   -- each connection has one number, and the next one is new
   pub rising : IsStrictlySortedBy nat_cmp (numbers_of h.state)
   pub below : All (λ (n : ℕ). n < next) (numbers_of h.state)
