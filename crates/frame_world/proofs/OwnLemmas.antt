@@ -1,7 +1,6 @@
 -- What an editor does itself keeps the tie.
 use Rattle.std.proofs.Common.{◌≡◌, ℕ, ◌+◌, true, false, List, [], ◌∷◌, ◌++◌, length, Some, None, inl, inr, refl, sym, ap, ◌∙◌, subst, arith, append-nil}
 use Rattle.delta.specs.Cells.{Cells, applied}
-use Rattle.file_uri.specs.Base.{BaseView}
 use Rattle.text_position.specs.Changes.{Change, edit_for}
 use Rattle.text_position.specs.Edits.{delta_of_edits}
 use Rattle.text_position.proofs.EditLemmas.{IsNormal-replacing}
@@ -17,11 +16,10 @@ use Rattle.editor_client.specs.Editor as step
 use Rattle.editor_client.specs.Requests.{open_request, close_request, edit_request, body_of}
 use Rattle.editor_client.specs.declared.states.ClientState.{ClientState}
 use Rattle.editor_client.specs.declared.states.ClientState.TheVariants as client_state
-use Rattle.frame_world.specs.Laws.{IsClientOf, IsChangeOf, IsTold, OwnSteps}
+use Rattle.frame_world.specs.Laws.{IsTold, IsReadBack, TellsOf, OwnSteps}
 use Rattle.frame_world.specs.Seats.{Seat, opened, closed, typed, lost}
 use Rattle.frame_world.specs.Tie.{Ids, ReadsAs, state_of, IsTied}
 use Rattle.frame_world.proofs.BodyLemmas.{GoOn, weaker_reached, bodies-push, bodies_on, said_on, one_more, one_open}
-use Rattle.frame_world.proofs.RequestLemmas.{requests_are_read, changes_are_read}
 
 -- an edit is for the text that the editor shows, once all before it is taken
 reads_there : (view : List ℕ) (c : Editor) (change : Change) (e : N.Editor) (low : ℕ) → Good view e → is_closed e.state ≡ false → c.text ≡ e.text → IsTold c change
@@ -39,19 +37,18 @@ reads_there view c change e low good live text told there is =
     ]
 
 -- a change, where the text is not closed
-typed_live : (base : BaseView) (path uri view : List ℕ) (change : Change) (cs : ClientState) (c : Editor) (x : Seat) (e : N.Editor)
-    → is_closed (state_of cs) ≡ false → IsClientOf base path (record c { state = cs }) → IsChangeOf (record c { state = cs }) change
+typed_live : (uri view : List ℕ) (change : Change) (cs : ClientState) (c : Editor) (x : Seat) (e : N.Editor)
+    → is_closed (state_of cs) ≡ false → IsTold (record c { state = cs }) change
     → Good view (record e { state = state_of cs })
     → IsTied uri (record x { client = record c { state = cs } }) (record e { state = state_of cs })
     → let d : Cells = delta_of change c.text in IsTied uri
     (record { client = step.typed_where false d (record c { state = cs }); up = x.up ++ body_of (edit_request change (record c { state = cs })) (record c { state = cs }) ∷ []; down = x.down })
     (N.typed_where false d (record e { state = state_of cs }))
-typed_live base path uri view change cs c x e live of changes good tied =
+typed_live uri view change cs c x e live told good tied =
     let client : Editor = record c { state = cs } in
     let f : N.Editor = record e { state = state_of cs } in
     let d : Cells = delta_of change c.text in
     let h = tied.tied in
-    let told : IsTold client change = changes_are_read base path client change of changes in
     let ids : Ids = record { opening = h.opening; requests = c.requests; session = e.session } in
     let next : Ids = record { opening = h.opening; requests = c.requests + 1; session = e.session } in
     let go : GoOn ids next = one_more h.opening c.requests e.session in
@@ -96,15 +93,15 @@ typed_live base path uri view change cs c x e live of changes good tied =
       };
     }
 
-typed_in : (base : BaseView) (path uri view : List ℕ) (change : Change) (cs : ClientState) (c : Editor) (x : Seat) (e : N.Editor)
-    → IsClientOf base path (record c { state = cs }) → IsChangeOf (record c { state = cs }) change → Good view (record e { state = state_of cs })
+typed_in : (uri view : List ℕ) (change : Change) (cs : ClientState) (c : Editor) (x : Seat) (e : N.Editor)
+    → TellsOf (record c { state = cs }) change → Good view (record e { state = state_of cs })
     → IsTied uri (record x { client = record c { state = cs } }) (record e { state = state_of cs })
     → IsTied uri (typed change (record x { client = record c { state = cs } })) (N.typed (delta_of change c.text) (record e { state = state_of cs }))
-typed_in base path uri view change client_state.Opening c x e of changes good tied =
-    typed_live base path uri view change client_state.Opening c x e refl of changes good tied
-typed_in base path uri view change client_state.Open c x e of changes good tied =
-    typed_live base path uri view change client_state.Open c x e refl of changes good tied
-typed_in base path uri view change client_state.Closed c x e of changes good tied =
+typed_in uri view change client_state.Opening c x e tells good tied =
+    typed_live uri view change client_state.Opening c x e refl (tells refl) good tied
+typed_in uri view change client_state.Open c x e tells good tied =
+    typed_live uri view change client_state.Open c x e refl (tells refl) good tied
+typed_in uri view change client_state.Closed c x e tells good tied =
     let h = tied.tied in
     let d : Cells = delta_of change c.text in
     subst (λ u. IsTied uri (record { client = record c { state = client_state.Closed; text = applied d c.text }; up = u; down = x.down }) (N.typed_where true d (record e { state = Closed })))
@@ -129,16 +126,16 @@ typed_in base path uri view change client_state.Closed c x e of changes good tie
       };
     })
 
-tied_typed : (base : BaseView) (path uri view : List ℕ) (change : Change) (x : Seat) (e : N.Editor) → IsClientOf base path x.client → IsChangeOf x.client change → Good view e → IsTied uri x e
+tied_typed : (uri view : List ℕ) (change : Change) (x : Seat) (e : N.Editor) → TellsOf x.client change → Good view e → IsTied uri x e
     → IsTied uri (typed change x) (N.typed (delta_of change x.client.text) e)
-tied_typed base path uri view change x e of changes good tied =
+tied_typed uri view change x e tells good tied =
     let state = tied.tied.state in
     subst (λ st. IsTied uri (typed change x) (N.typed (delta_of change x.client.text) (record e { state = st }))) state
-    (typed_in base path uri view change x.client.state x.client x e of changes (subst (λ st. Good view (record e { state = st })) (sym state) good)
+    (typed_in uri view change x.client.state x.client x e tells (subst (λ st. Good view (record e { state = st })) (sym state) good)
     (subst (λ st. IsTied uri x (record e { state = st })) (sym state) tied))
 
-tied_opened : (base : BaseView) (path uri : List ℕ) (x : Seat) (e : N.Editor) → IsClientOf base path x.client → IsTied uri x e → IsTied uri (opened x) (N.opened e)
-tied_opened base path uri x e of tied =
+tied_opened : (uri : List ℕ) (x : Seat) (e : N.Editor) → IsReadBack x.client (open_request x.client) → IsTied uri x e → IsTied uri (opened x) (N.opened e)
+tied_opened uri x e read tied =
     let h = tied.tied in
     let c : Editor = x.client in
     let ids : Ids = record { opening = h.opening; requests = c.requests; session = e.session } in
@@ -162,7 +159,7 @@ tied_opened base path uri x e of tied =
             (record {
               id = c.requests + 1;
               asked = open_request c;
-              read = (requests_are_read base path c of).opening;
+              read = read;
               says = (ap (λ u. asks.Open u c.text) h.uri_is ∙ ap (asks.Open uri) h.text, record { sent = omega arith; place = inl (refl, refl) });
             });
         frames = h.frames;
@@ -172,8 +169,8 @@ tied_opened base path uri x e of tied =
       };
     }
 
-tied_closed : (base : BaseView) (path uri : List ℕ) (x : Seat) (e : N.Editor) → IsClientOf base path x.client → IsTied uri x e → IsTied uri (closed x) (N.closed e)
-tied_closed base path uri x e of tied =
+tied_closed : (uri : List ℕ) (x : Seat) (e : N.Editor) → IsReadBack x.client (close_request x.client) → IsTied uri x e → IsTied uri (closed x) (N.closed e)
+tied_closed uri x e read tied =
     let h = tied.tied in
     let c : Editor = x.client in
     let ids : Ids = record { opening = h.opening; requests = c.requests; session = e.session } in
@@ -197,7 +194,7 @@ tied_closed base path uri x e of tied =
             (record {
               id = c.requests + 1;
               asked = close_request c;
-              read = (requests_are_read base path c of).closing;
+              read = read;
               says = (ap asks.Close h.uri_is, record { sent = omega arith; place = inl (refl, omega (arith, h.within)) });
             });
         frames = h.frames;
@@ -230,9 +227,9 @@ tied_lost uri x e tied =
       };
     }
 
-tied_new : (base : BaseView) (path uri text : List ℕ) → IsClientOf base path (new_editor uri text)
+tied_new : (uri text : List ℕ) → IsReadBack (new_editor uri text) (open_request (new_editor uri text))
     → IsTied uri (opened (record { client = new_editor uri text; up = []; down = [] })) (N.opened (new_counted text))
-tied_new base path uri text of =
+tied_new uri text read =
     let c : Editor = new_editor uri text in
     record {
       messages = [];
@@ -250,7 +247,7 @@ tied_new base path uri text of =
           record {
             id = 1;
             asked = open_request c;
-            read = (requests_are_read base path c of).opening;
+            read = read;
             says = (refl, record { sent = omega arith; place = inl (refl, refl) });
           },
           tt,
@@ -262,11 +259,11 @@ tied_new base path uri text of =
       };
     }
 
-pub own_steps : (base : BaseView) (path uri view : List ℕ) → OwnSteps base path uri view
-own_steps base path uri view = record {
-  begins = tied_new base path uri;
-  types = λ change x e of changes good tied. tied_typed base path uri view change x e of changes good tied;
-  opens = λ x e of tied. tied_opened base path uri x e of tied;
-  closes = λ x e of tied. tied_closed base path uri x e of tied;
-  loses = λ x e tied. tied_lost uri x e tied;
+pub own_steps : (uri view : List ℕ) → OwnSteps uri view
+own_steps uri view = record {
+  begins = tied_new uri;
+  types = tied_typed uri view;
+  opens = tied_opened uri;
+  closes = tied_closed uri;
+  loses = tied_lost uri;
 }

@@ -18,9 +18,10 @@ use Rattle.daemon_core.specs.State.{State, is_number}
 use Rattle.plain_world.specs.Lines.{first_line}
 use Rattle.message_bytes.specs.Fitting.{IsCount}
 use Rattle.rpc_message.specs.declared.faults.MessageFault.{MessageFault}
+use Rattle.rpc_message.specs.declared.messages.FromEditor.{FromEditor}
 use Rattle.rpc_message.specs.declared.messages.Incoming.{Incoming}
 use Rattle.rpc_message.specs.declared.messages.MessageId.{MessageId}
-use Rattle.editor_client.specs.Editor.{Editor, new_editor, delta_of}
+use Rattle.editor_client.specs.Editor.{Editor, new_editor, delta_of, is_closed}
 use Rattle.editor_client.specs.Requests.{open_request, close_request, edit_request, body_of, IsNextRequest}
 use Rattle.editor_client.specs.declared.notes.HeardNote.{HeardNote}
 use Rattle.frame_world.specs.Lines.{note_line}
@@ -66,19 +67,28 @@ abbrev pub ChangesAreRead : Type 0
 ChangesAreRead =
     (base : BaseView) (path : List ℕ) (c : Editor) (change : Change) → IsClientOf base path c → IsChangeOf c change → IsTold c change
 
--- What an editor does itself: it is still tied to what it is in the machine with counts.
+-- What an editor does itself: it is still tied to what it is in the machine with counts, where what it sends for that is read as
+-- what it asks.
 
-pub record OwnSteps (base : BaseView) (path uri view : List ℕ) : Type 0 where
-  pub begins : (text : List ℕ) → IsClientOf base path (new_editor uri text)
+-- the body of a client's next request is read as that request, with its id
+abbrev pub IsReadBack : Editor → FromEditor → Type 0
+IsReadBack c asked = IsNextRequest c asked (body_of asked c)
+
+-- what a client sends for a change, where it has not closed its text, is read as the change
+abbrev pub TellsOf : Editor → Change → Type 0
+TellsOf c change = is_closed c.state ≡ false → IsTold c change
+
+pub record OwnSteps (uri view : List ℕ) : Type 0 where
+  pub begins : (text : List ℕ) → IsReadBack (new_editor uri text) (open_request (new_editor uri text))
       → IsTied uri (opened (record { client = new_editor uri text; up = []; down = [] })) (N.opened (new_counted text))
-  pub types : (change : Change) (x : Seat) (e : N.Editor) → IsClientOf base path x.client → IsChangeOf x.client change → Good view e → IsTied uri x e
+  pub types : (change : Change) (x : Seat) (e : N.Editor) → TellsOf x.client change → Good view e → IsTied uri x e
       → IsTied uri (typed change x) (N.typed (delta_of change x.client.text) e)
-  pub opens : (x : Seat) (e : N.Editor) → IsClientOf base path x.client → IsTied uri x e → IsTied uri (opened x) (N.opened e)
-  pub closes : (x : Seat) (e : N.Editor) → IsClientOf base path x.client → IsTied uri x e → IsTied uri (closed x) (N.closed e)
+  pub opens : (x : Seat) (e : N.Editor) → IsReadBack x.client (open_request x.client) → IsTied uri x e → IsTied uri (opened x) (N.opened e)
+  pub closes : (x : Seat) (e : N.Editor) → IsReadBack x.client (close_request x.client) → IsTied uri x e → IsTied uri (closed x) (N.closed e)
   pub loses : (x : Seat) (e : N.Editor) → IsTied uri x e → IsTied uri (lost x) (N.lost e)
 
 abbrev pub OwnStepsAreAlike : Type 0
-OwnStepsAreAlike = (base : BaseView) (path uri view : List ℕ) → OwnSteps base path uri view
+OwnStepsAreAlike = (uri view : List ℕ) → OwnSteps uri view
 
 -- What the daemon makes of what comes first.
 

@@ -1,44 +1,52 @@
 -- What each move makes of a world that a program keeps, and where it is possible.
-use Rattle.std.specs.Prelude.{◌≡◌, ℕ, zero, suc, Bool, true, false, ◌&&◌, not, nat_lt, List, [], ◌∷◌, ◌++◌, length, Option, Some, None, is_some, option_and_then}
+use Rattle.std.specs.Prelude.{◌≡◌, ℕ, zero, suc, Bool, true, false, ◌&&◌, not, nat_lt, List, [], ◌∷◌, ◌++◌, length, Option, Some, None, Ok, is_some, option_and_then}
 use Rattle.std.specs.Map.{set_value}
 use Rattle.file_uri.specs.Base.{BaseView}
+use Rattle.file_uri.specs.PathOf.{path_of}
+use Rattle.file_uri.specs.UriOf.{uri_of}
 use Rattle.replay_script.specs.declared.moves.Move.{Move}
+use Rattle.rpc_message.specs.declared.messages.FromEditor.{FromEditor}
 use Rattle.rpc_frame.specs.Stream.{StreamEnd, Begun, Broken}
-use Rattle.editor_client.specs.Editor.{Editor, change_at}
+use Rattle.editor_client.specs.Editor.{Editor, new_editor, change_at}
+use Rattle.editor_client.specs.Requests.{open_request, close_request}
 use Rattle.editor_client.specs.declared.notes.HeardNote.{HeardNote}
 use Rattle.daemon_core.specs.State.{is_number}
 use Rattle.daemon_core.specs.declared.events.Event.TheVariants.{EditorFrame}
-use Rattle.frame_world.specs.Laws.{IsClientOf, IsChangeOf}
+use Rattle.frame_world.specs.Laws.{IsReadBack, TellsOf}
 use Rattle.frame_world.specs.Lines.{note_line}
 use Rattle.frame_world.specs.Seats.{Seat, IsDelivered}
 use Rattle.plain_world.specs.Lines.{hung_line}
 use Rattle.plain_world.specs.RawFrames.{Reader, Reading, read_behind}
 use Rattle.kept_world.specs.Events.{KeptPlayed, IsEvent}
-use Rattle.kept_world.specs.Steps.{quietly, new_client, begins, joins, types, closes, opens, cuts, shows, tells_file, tells_held, kept_of, raw_begins, without_raw, raw_ends}
+use Rattle.kept_world.specs.Steps.{quietly, begins, joins, types, closes, opens, cuts, shows, tells_file, tells_held, kept_of, raw_begins, without_raw, raw_ends}
 use Rattle.kept_world.specs.Worlds.{KeptHost, KeptEditor, KeptWorld, running, editor_of, with_host, with_seat}
 
--- What an editor does itself. Its client is one of the file at its path: what it has is characters, and its counts fit in 64 bits.
+-- What an editor does itself. The body that it sends for that is read as what it asks.
 
--- the client of an editor that is there is one of a file below the base
-abbrev pub HasClient : BaseView → KeptWorld → ℕ → Type 0
-HasClient base k e = (x : KeptEditor) → editor_of k e ≡ Some x → IsClientOf base x.path x.seat.client
+-- the next request of an editor that is there is read so
+abbrev pub NextIsRead : KeptWorld → ℕ → (Editor → FromEditor) → Type 0
+NextIsRead k e asked = (x : KeptEditor) → editor_of k e ≡ Some x → IsReadBack x.seat.client (asked x.seat.client)
 
-pub record IsJoined (base : BaseView) (k : KeptWorld) (e d : ℕ) (path text : List ℕ) (p : KeptPlayed) : Type 0 where
+-- the URI of a path below a base names the path, and the open of a new client of it is read so
+pub record IsNewClient (base : BaseView) (path text : List ℕ) : Type 0 where
+  pub path_is : path_of base (uri_of base path) ≡ Ok path
+  pub read : IsReadBack (new_editor (uri_of base path) text) (open_request (new_editor (uri_of base path) text))
+
+pub record IsJoined (k : KeptWorld) (e d : ℕ) (path text : List ℕ) (p : KeptPlayed) : Type 0 where
   pub is : joins k e d path text ≡ Some p
-  pub client : (h : KeptHost) → running k d ≡ Some h → IsClientOf base path (new_client h path text)
+  pub client : (h : KeptHost) → running k d ≡ Some h → IsNewClient h.state.base path text
 
-pub record IsTyped (base : BaseView) (k : KeptWorld) (e place gone : ℕ) (text : List ℕ) (p : KeptPlayed) : Type 0 where
+pub record IsTyped (k : KeptWorld) (e place gone : ℕ) (text : List ℕ) (p : KeptPlayed) : Type 0 where
   pub is : types k e place gone text ≡ Some p
-  pub client : HasClient base k e
-  pub change : (x : KeptEditor) → editor_of k e ≡ Some x → IsChangeOf x.seat.client (change_at place gone text)
+  pub tells : (x : KeptEditor) → editor_of k e ≡ Some x → TellsOf x.seat.client (change_at place gone text)
 
-pub record IsClosed (base : BaseView) (k : KeptWorld) (e : ℕ) (p : KeptPlayed) : Type 0 where
+pub record IsClosed (k : KeptWorld) (e : ℕ) (p : KeptPlayed) : Type 0 where
   pub is : closes k e ≡ Some p
-  pub client : HasClient base k e
+  pub read : NextIsRead k e close_request
 
-pub record IsOpened (base : BaseView) (k : KeptWorld) (e : ℕ) (p : KeptPlayed) : Type 0 where
+pub record IsOpened (k : KeptWorld) (e : ℕ) (p : KeptPlayed) : Type 0 where
   pub is : opens k e ≡ Some p
-  pub client : HasClient base k e
+  pub read : NextIsRead k e open_request
 
 -- What is delivered.
 
@@ -121,13 +129,13 @@ pub record IsHeardOn (reader : Reader) (k : KeptWorld) (d c : ℕ) (piece : List
 -- what a move makes of the world: the next world and what is printed
 abbrev pub IsMove : BaseView → Reader → KeptWorld → Move → KeptPlayed → Type 0
 IsMove base reader k (Move.Daemon d) p = begins base k d ≡ Some p
-IsMove base reader k (Move.Editor e d path text) p = IsJoined base k e d path text p
-IsMove base reader k (Move.Typed e place gone text) p = IsTyped base k e place gone text p
+IsMove base reader k (Move.Editor e d path text) p = IsJoined k e d path text p
+IsMove base reader k (Move.Typed e place gone text) p = IsTyped k e place gone text p
 IsMove base reader k (Move.Up e) p = IsUp k e p
 IsMove base reader k (Move.Down e) p = IsDown k e p
 IsMove base reader k (Move.Settle e) p = IsSettled k e p
-IsMove base reader k (Move.Close e) p = IsClosed base k e p
-IsMove base reader k (Move.Open e) p = IsOpened base k e p
+IsMove base reader k (Move.Close e) p = IsClosed k e p
+IsMove base reader k (Move.Open e) p = IsOpened k e p
 IsMove base reader k (Move.Cut e) p = cuts k e ≡ Some p
 IsMove base reader k (Move.Show e) p = shows k e ≡ Some p
 IsMove base reader k (Move.File d path) p = tells_file k d path ≡ Some p
