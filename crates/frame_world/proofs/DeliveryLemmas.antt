@@ -1,16 +1,15 @@
 -- A frame that comes to an editor does what its mark does.
-use Rattle.std.proofs.Common.{◌≡◌, ◌≢◌, ℕ, ◌+◌, ◌<◌, ◌==◌, Bool, true, false, List, [], ◌∷◌, length, map, Option, Some, None, inl, inr, refl, sym, ap, ◌∙◌, subst, arith, eq-eqb, ne_eqb}
+use Rattle.std.proofs.Common.{◌≡◌, ◌≢◌, ℕ, ◌+◌, ◌-◌, ◌^◌, ◌<◌, ◌==◌, Bool, true, false, List, [], ◌∷◌, length, map, Option, Some, None, inl, inr, refl, sym, ap, ◌∙◌, subst, arith, eq-eqb, ne_eqb}
 use Rattle.delta.specs.Cells.{Cells, applied}
 use Rattle.transform.specs.Carried.{IsChain}
-use Rattle.bridge_world.specs.Plain.{Cause, Mark, Kind, Opening, Open, Closed, OpenDone, Done, Failed, New, Old}
+use Rattle.bridge_world.specs.Plain.{Cause, Mark, Kind, OpenDone, Done, Failed, New, Old}
 use Rattle.bridge_world.specs.Counted as N
 use Rattle.bridge_world.specs.Counted.{base_of, down_of, with_one_shown, Held, Frame, Sent}
-use Rattle.bridge_world.specs.Plain as P
 use Rattle.bridge_world.specs.Tie.{Stand, stand_of, client_of, place, NewFits, new_deltas, Good}
 use Rattle.bridge_world.proofs.Delivery.{both_delivered, stands_there, leads_within}
 use Rattle.bridge_world.proofs.HeldLemmas.{base_of-one_shown}
 use Rattle.bridge_world.proofs.MessageLemmas.{own_grows}
-use Rattle.rpc_frame.specs.Written.{frame_bytes}
+use Rattle.rpc_frame.specs.Stream.{Begun, Reads}
 use Rattle.rpc_message.specs.Replies.{IsReply}
 use Rattle.rpc_message.specs.Written.{written}
 use Rattle.rpc_message.specs.declared.messages.MessageId.TheVariants.{Number}
@@ -307,16 +306,16 @@ printed_alike Old n uri ids s r m c wire says =
 delivered_first : (view uri : List ℕ) (n : ℕ) (before after : Seat) (note : HeardNote) (e : N.Editor) (wire : List Frame) (messages : List ToEditor)
     → Good view (record e { wire = wire }) → IsTiedWith messages uri before (record e { wire = wire }) → IsDelivered before note after
     → (IsTied uri after (N.delivered_first wire (record e { wire = wire }))) × (note_line n note ≡ first_line n (N.marks wire))
-delivered_first view uri n x y note e [] [] good h came = absurd (none_comes (frame_bytes came.body) came.rest (sym came.first ∙ h.frames)) where
+delivered_first view uri n x y note e [] [] good h came = absurd (none_comes came.frame came.rest (sym came.first ∙ h.frames)) where
   none_comes : (f : List ℕ) (fs : List (List ℕ)) → f ∷ fs ≡ [] → ⊥
   none_comes f fs is = cc
 delivered_first view uri n x y note e [] (m ∷ ms) good h came = absurd h.down
 delivered_first view uri n x y note e (f ∷ wire) [] good h came = absurd h.down
 delivered_first view uri n x y note e (f ∷ wire) (m ∷ ms) good h came =
-    let fronts : frame_bytes came.body ∷ came.rest ≡ frame_of m ∷ map frame_of ms = sym came.first ∙ h.frames in
-    let front : frame_bytes came.body ≡ frame_of m = heads fronts in
+    let fronts : came.frame ∷ came.rest ≡ frame_of m ∷ map frame_of ms = sym came.first ∙ h.frames in
     let rest : came.rest ≡ map frame_of ms = tails fronts in
-    let body : came.body ≡ written m = one_body came.body (written m) came.small h.sent.0.small front in
+    let body : came.body ≡ written m =
+    one_body came.body (written m) h.sent.0.small (subst (λ f. Reads (2 ^ 64 - 1) f (came.body ∷ []) (Begun [])) (heads fronts) came.reads) in
     let message : came.heard.message ≡ m =
     one_message came.body came.heard.message m came.heard.reply (subst (λ b. IsReply b m) (sym body) (answer_comes_back m h.sent.0.fits)) in
     let client : y.client ≡ heard m x.client = came.heard.left ∙ ap (λ k. heard k x.client) message in

@@ -1,6 +1,6 @@
 -- What a client makes of a message, by what is known of its id or its edits.
 use Rattle.std.proofs.Common.{◌≡◌, ◌≢◌, ℕ, ◌+◌, ◌<◌, ◌≤◌, ◌==◌, ◌&&◌, ◌^◌, ◌-◌}
-use Rattle.std.proofs.Common.{Bool, true, false, List, [], ◌∷◌, ◌++◌, length, Option, Some, None, refl, sym, ap, ◌∙◌, subst, arith, nat_le, eq-eqb, le-leb, ne_eqb, append_assoc, codes, decimal}
+use Rattle.std.proofs.Common.{Bool, true, false, List, [], ◌∷◌, ◌++◌, length, Option, Some, None, refl, sym, ap, ◌∙◌, subst, arith, nat_le, eq-eqb, le-leb, ne_eqb, append-nil, append_assoc, codes, decimal}
 use Rattle.std.specs.Prelude.{if◌then◌else◌}
 use Rattle.std.specs.Str.{bytes_eq}
 use Rattle.std.proofs.lemmas.Bool.{lt-leb}
@@ -38,19 +38,17 @@ use Rattle.frame_world.specs.Lines.{note_line}
 -- ---- frames and messages
 
 -- the frame of a body is read as that body
-read_alone : (body : List ℕ) → length body < 2 ^ 64 → Reads (2 ^ 64 - 1) (frame_bytes body ++ []) (body ∷ []) (Begun [])
+read_alone : (body : List ℕ) → length body < 2 ^ 64 → Reads (2 ^ 64 - 1) (frame_bytes body) (body ∷ []) (Begun [])
 read_alone body small =
     let limit : ℕ = 2 ^ 64 - 1 in
-    reads_behind limit body (frame_bytes body) [] [] (Begun []) (written_frame limit body (omega (arith, small)) small)
-    (reads_none limit [] (nothing_begun limit))
+    subst (λ s. Reads limit s (body ∷ []) (Begun [])) (append-nil (frame_bytes body))
+    (reads_behind limit body (frame_bytes body) [] [] (Begun []) (written_frame limit body (omega (arith, small)) small)
+    (reads_none limit [] (nothing_begun limit)))
 
--- so a frame is that of one body
-pub one_body : (a b : List ℕ) → length a < 2 ^ 64 → length b < 2 ^ 64 → frame_bytes a ≡ frame_bytes b → a ≡ b
-one_body a b small_a small_b is =
-    let limit : ℕ = 2 ^ 64 - 1 in
-    let other : Reads limit (frame_bytes a ++ []) (b ∷ []) (Begun []) =
-    subst (λ s. Reads limit (s ++ []) (b ∷ []) (Begun [])) (sym is) (read_alone b small_b) in
-    let same : a ∷ [] ≡ b ∷ [] = (one_reading limit (frame_bytes a ++ []) (a ∷ []) (b ∷ []) (Begun []) (Begun []) (read_alone a small_a) other).0 in
+-- and as no other
+pub one_body : (a b : List ℕ) → length b < 2 ^ 64 → Reads (2 ^ 64 - 1) (frame_bytes b) (a ∷ []) (Begun []) → a ≡ b
+one_body a b small reads =
+    let same : a ∷ [] ≡ b ∷ [] = (one_reading (2 ^ 64 - 1) (frame_bytes b) (a ∷ []) (b ∷ []) (Begun []) (Begun []) reads (read_alone b small)).0 in
     cc
 
 -- a body is one message at most

@@ -1,6 +1,6 @@
 -- An editor of a script as a program keeps it: the client, the bodies under way from it, and the frames under way to it.
-use Rattle.std.specs.Prelude.{◌≡◌, ℕ, ◌^◌, ◌<◌, List, [], ◌∷◌, ◌++◌, length, option_to_list}
-use Rattle.rpc_frame.specs.Written.{frame_bytes}
+use Rattle.std.specs.Prelude.{◌≡◌, ℕ, ◌-◌, ◌^◌, List, [], ◌∷◌, ◌++◌, option_to_list}
+use Rattle.rpc_frame.specs.Stream.{Begun, Reads}
 use Rattle.text_position.specs.Changes.{Change}
 use Rattle.editor_client.specs.Editor as step
 use Rattle.editor_client.specs.Editor.{Editor}
@@ -30,12 +30,13 @@ typed change x =
 abbrev pub lost : Seat → Seat
 lost x = record { client = step.lost x.client; up = []; down = [] }
 
--- the body of the first frame under way comes to the client, which tells this of it
+-- the first frame under way is read as a body, which comes to the client, and this is told of it
 pub record IsDelivered (before : Seat) (note : HeardNote) (after : Seat) : Type 0 where
-  pub body : List ℕ
+  pub frame : List ℕ
   pub rest : List (List ℕ)
-  pub small : length body < 2 ^ 64
-  pub first : before.down ≡ frame_bytes body ∷ rest
+  pub first : before.down ≡ frame ∷ rest
+  pub body : List ℕ
+  pub reads : Reads (2 ^ 64 - 1) frame (body ∷ []) (Begun [])
   pub heard : IsHeard body before.client note after.client
   pub up : after.up ≡ before.up
   pub down : after.down ≡ rest
