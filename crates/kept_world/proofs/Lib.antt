@@ -1,0 +1,12 @@
+pub mod ZipLemmas
+pub mod Alike
+pub mod TieLemmas
+pub mod StillLemmas
+pub mod OwnLemmas
+pub mod DownLemmas
+pub mod NumberLemmas
+pub mod FedLemmas
+pub mod HostLemmas
+pub mod FeedLemmas
+pub mod BeginLemmas
+pub mod JoinLemmas
