@@ -10,3 +10,5 @@ pub mod HostLemmas
 pub mod FeedLemmas
 pub mod BeginLemmas
 pub mod JoinLemmas
+pub mod OpenLemmas
+pub mod CutLemmas
