@@ -12,3 +12,8 @@ pub mod BeginLemmas
 pub mod JoinLemmas
 pub mod OpenLemmas
 pub mod CutLemmas
+pub mod PrintedLemmas
+pub mod AfterLemmas
+pub mod SameLemmas
+pub mod TurnLemmas
+pub mod ToldLemmas
