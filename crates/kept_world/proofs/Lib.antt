@@ -17,3 +17,6 @@ pub mod AfterLemmas
 pub mod SameLemmas
 pub mod TurnLemmas
 pub mod ToldLemmas
+pub mod ShowLemmas
+pub mod SettleLemmas
+pub mod PossibleLemmas
