@@ -9,7 +9,7 @@ use Rattle.bridge_world.specs.Tie.{Stand, stand_of, client_of, place, NewFits, n
 use Rattle.bridge_world.proofs.Delivery.{both_delivered, stands_there, leads_within}
 use Rattle.bridge_world.proofs.HeldLemmas.{base_of-one_shown}
 use Rattle.bridge_world.proofs.MessageLemmas.{own_grows}
-use Rattle.rpc_frame.specs.Stream.{Begun, Reads}
+use Rattle.rpc_frame.specs.Stream.{Reads}
 use Rattle.rpc_message.specs.Replies.{IsReply}
 use Rattle.rpc_message.specs.Written.{written}
 use Rattle.rpc_message.specs.declared.messages.MessageId.TheVariants.{Number}
@@ -315,7 +315,7 @@ delivered_first view uri n x y note e (f ∷ wire) (m ∷ ms) good h came =
     let fronts : came.frame ∷ came.rest ≡ frame_of m ∷ map frame_of ms = sym came.first ∙ h.frames in
     let rest : came.rest ≡ map frame_of ms = tails fronts in
     let body : came.body ≡ written m =
-    one_body came.body (written m) h.sent.0.small (subst (λ f. Reads (2 ^ 64 - 1) f (came.body ∷ []) (Begun [])) (heads fronts) came.reads) in
+    one_body came.body (written m) came.left h.sent.0.small (subst (λ f. Reads (2 ^ 64 - 1) f (came.body ∷ []) came.left) (heads fronts) came.reads) in
     let message : came.heard.message ≡ m =
     one_message came.body came.heard.message m came.heard.reply (subst (λ b. IsReply b m) (sym body) (answer_comes_back m h.sent.0.fits)) in
     let client : y.client ≡ heard m x.client = came.heard.left ∙ ap (λ k. heard k x.client) message in

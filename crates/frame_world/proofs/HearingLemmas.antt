@@ -8,7 +8,7 @@ use Rattle.delta.specs.Cells.{Cells, applied, base_length, IsNormal}
 use Rattle.text_position.specs.Changes.{edits_of}
 use Rattle.text_position.specs.Edits.{delta_of_edits}
 use Rattle.tt_base.specs.declared.edits.TextEdit.{TextEdit}
-use Rattle.rpc_frame.specs.Stream.{Begun, Reads}
+use Rattle.rpc_frame.specs.Stream.{StreamEnd, Begun, Reads}
 use Rattle.rpc_frame.specs.Written.{frame_bytes}
 use Rattle.rpc_frame.proofs.HeldLemmas.{nothing_begun}
 use Rattle.rpc_frame.proofs.OneReading.{one_reading}
@@ -46,9 +46,9 @@ read_alone body small =
     (reads_none limit [] (nothing_begun limit)))
 
 -- and as no other
-pub one_body : (a b : List ℕ) → length b < 2 ^ 64 → Reads (2 ^ 64 - 1) (frame_bytes b) (a ∷ []) (Begun []) → a ≡ b
-one_body a b small reads =
-    let same : a ∷ [] ≡ b ∷ [] = (one_reading (2 ^ 64 - 1) (frame_bytes b) (a ∷ []) (b ∷ []) (Begun []) (Begun []) reads (read_alone b small)).0 in
+pub one_body : (a b : List ℕ) (left : StreamEnd) → length b < 2 ^ 64 → Reads (2 ^ 64 - 1) (frame_bytes b) (a ∷ []) left → a ≡ b
+one_body a b left small reads =
+    let same : a ∷ [] ≡ b ∷ [] = (one_reading (2 ^ 64 - 1) (frame_bytes b) (a ∷ []) (b ∷ []) left (Begun []) reads (read_alone b small)).0 in
     cc
 
 -- a body is one message at most

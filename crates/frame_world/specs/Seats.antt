@@ -1,6 +1,6 @@
 -- An editor of a script as a program keeps it: the client, the bodies under way from it, and the frames under way to it.
 use Rattle.std.specs.Prelude.{◌≡◌, ℕ, ◌-◌, ◌^◌, List, [], ◌∷◌, ◌++◌, option_to_list}
-use Rattle.rpc_frame.specs.Stream.{Begun, Reads}
+use Rattle.rpc_frame.specs.Stream.{StreamEnd, Reads}
 use Rattle.text_position.specs.Changes.{Change}
 use Rattle.editor_client.specs.Editor as step
 use Rattle.editor_client.specs.Editor.{Editor}
@@ -36,7 +36,9 @@ pub record IsDelivered (before : Seat) (note : HeardNote) (after : Seat) : Type 
   pub rest : List (List ℕ)
   pub first : before.down ≡ frame ∷ rest
   pub body : List ℕ
-  pub reads : Reads (2 ^ 64 - 1) frame (body ∷ []) (Begun [])
+  -- what is behind the body, which is nothing in a frame that a daemon has written
+  pub left : StreamEnd
+  pub reads : Reads (2 ^ 64 - 1) frame (body ∷ []) left
   pub heard : IsHeard body before.client note after.client
   pub up : after.up ≡ before.up
   pub down : after.down ≡ rest
