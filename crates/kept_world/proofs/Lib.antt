@@ -20,3 +20,4 @@ pub mod ToldLemmas
 pub mod ShowLemmas
 pub mod SettleLemmas
 pub mod PossibleLemmas
+pub mod LawLemmas

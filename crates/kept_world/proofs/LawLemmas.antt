@@ -1,0 +1,39 @@
+-- The laws of whole worlds.
+use Rattle.std.proofs.Common.{◌≡◌, ℕ, false, List, [], Option, Some, None, is_some, refl, sym, ap, ◌∙◌}
+use Rattle.file_uri.specs.Base.{BaseView}
+use Rattle.replay_script.specs.declared.moves.Move.{Move}
+use Rattle.plain_world.specs.RawFrames.{Reader}
+use Rattle.plain_world.specs.Step.{played}
+use Rattle.plain_world.specs.World as P
+use Rattle.kept_world.specs.Events.{KeptPlayed}
+use Rattle.kept_world.specs.Laws.{Plays, BeginningsAreAlike, PossibleAlike}
+use Rattle.kept_world.specs.Moves.{can_move}
+use Rattle.kept_world.specs.Tie.{Ties}
+use Rattle.kept_world.specs.Worlds.{KeptWorld}
+use Rattle.kept_world.proofs.Alike.{Comes}
+use Rattle.kept_world.proofs.PossibleLemmas.{begins_possible, joins_possible, types_possible, up_possible, down_possible, settles_possible, closes_possible, opens_possible}
+use Rattle.kept_world.proofs.PossibleLemmas.{cuts_possible, shows_possible, file_possible, held_possible, raw_begins_possible, hears_possible, raw_ends_possible}
+
+pub beginnings_are_alike : BeginningsAreAlike
+beginnings_are_alike base = record { hosts = tt; editors = tt; connections = refl; on_their_own = λ e f n x y at_e. cc }
+
+pub moves_are_possible_alike : PossibleAlike
+moves_are_possible_alike base reader k w moved ties = possible base reader k w moved ties where
+  possible : (base : BaseView) (reader : Reader) (k : KeptWorld) (w : P.World) (moved : Move) → Ties base k w
+      → can_move base k moved ≡ is_some (played base reader w moved)
+  possible base reader k w (Move.Daemon d) ties = begins_possible base k w d ties
+  possible base reader k w (Move.Editor e d path text) ties = joins_possible base k w e d path text ties
+  possible base reader k w (Move.Typed e place gone text) ties = types_possible base k w e place gone text ties
+  possible base reader k w (Move.Up e) ties = up_possible base k w e ties
+  possible base reader k w (Move.Down e) ties = down_possible base k w e ties
+  possible base reader k w (Move.Settle e) ties = settles_possible base k w e ties
+  possible base reader k w (Move.Close e) ties = closes_possible base k w e ties
+  possible base reader k w (Move.Open e) ties = opens_possible base k w e ties
+  possible base reader k w (Move.Cut e) ties = cuts_possible base k w e ties
+  possible base reader k w (Move.Show e) ties = shows_possible base k w e ties
+  possible base reader k w (Move.File d path) ties = file_possible base k w d path ties
+  possible base reader k w (Move.Held d) ties = held_possible base k w d ties
+  possible base reader k w (Move.BeginEditor d c) ties = raw_begins_possible base k w d c ties
+  possible base reader k w (Move.Hear d c piece) ties = hears_possible base reader k w d c piece ties
+  possible base reader k w (Move.End d c) ties = raw_ends_possible base k w d c ties
+  possible base reader k w moved ties = refl
