@@ -21,3 +21,6 @@ pub mod ShowLemmas
 pub mod SettleLemmas
 pub mod PossibleLemmas
 pub mod LawLemmas
+pub mod EventLemmas
+pub mod FrameLemmas
+pub mod HearLemmas
