@@ -24,3 +24,5 @@ pub mod LawLemmas
 pub mod EventLemmas
 pub mod FrameLemmas
 pub mod HearLemmas
+pub mod UpLemmas
+pub mod GoesUpLemmas
