@@ -6,3 +6,4 @@ pub mod StepLemmas
 pub mod MessageLemmas
 pub mod ServeLemmas
 pub mod RefusalLemmas
+pub mod SendingLemmas

@@ -4,4 +4,5 @@ pub mod Outcome
 pub mod Refusing
 pub mod Serving
 pub mod Outputs
+pub mod Sending
 pub mod Laws
