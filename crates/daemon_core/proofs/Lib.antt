@@ -5,3 +5,5 @@ pub mod MapLemmas
 pub mod StepLemmas
 pub mod MessageLemmas
 pub mod ServeLemmas
+pub mod RefusalLemmas
+pub mod SendingLemmas

@@ -7,6 +7,7 @@ ghost use Rattle.delta.specs.Cells.{base_length};
 ghost use Rattle.daemon_core.specs.History.{text_at};
 ghost use Rattle.daemon_core.specs.Outcome.{effects_of, told_links};
 ghost use Rattle.daemon_core.specs.Outputs.{told_outputs};
+ghost use Rattle.daemon_core.specs.Sending.{EachCanBeSent, messages_told};
 ghost use Rattle.daemon_core.specs.State.{is_number};
 ghost use Rattle.daemon_links.specs.Changing.{AllMayTell, effect_of};
 
@@ -51,6 +52,7 @@ fn tell_each(
     requires told { AllMayTell text.now change.now.path connections.entries }
     ensures links { IfOk result (λ told. told.entries ≡ map (λ c. (c.0, told_links (effect_of change.now ∷ []) c.1)) connections.entries) }
     ensures sent { OnOk result (sent.new.items ≡ sent.old.items ++ flat_map (told_outputs base.now (effect_of change.now ∷ [])) connections.entries) }
+    ensures read { OnOk result (EachCanBeSent (flat_map (messages_told base.now (effect_of change.now ∷ [])) connections.entries)) }
 {
     let _ = connections.len();
     let mut told = BTreeMap::new(alloc);
@@ -104,6 +106,7 @@ impl Connections {
         requires told { AllMayTell (text_at files.now change.now.path) change.now.path self.old }
         ensures links { OnOk result (self.new ≡ map (λ c. (c.0, told_links (effects_of change.now.path change.now.delta) c.1)) self.old) }
         ensures sent { OnOk result (sent.new.items ≡ sent.old.items ++ flat_map (told_outputs base.now (effects_of change.now.path change.now.delta)) self.old) }
+        ensures read { OnOk result (EachCanBeSent (flat_map (messages_told base.now (effects_of change.now.path change.now.delta)) self.old)) }
     {
         if change.delta.is_empty() {
             return Ok(());

@@ -8,6 +8,7 @@ ghost use Rattle.std.specs.Ordering.{nat_cmp};
 ghost use Rattle.delta.specs.Cells.{base_length};
 ghost use Rattle.daemon_core.specs.Outcome.{Gone, own_links, told_links};
 ghost use Rattle.daemon_core.specs.Outputs.{told_outputs};
+ghost use Rattle.daemon_core.specs.Sending.{EachCanBeSent, messages_told};
 ghost use Rattle.daemon_core.specs.State.{link_at};
 ghost use Rattle.daemon_links.specs.Changing.{MayTell, effect_of};
 
@@ -87,6 +88,7 @@ impl OpenFiles {
         requires told { MayTell text.now change.now.path self.old }
         ensures links { OnOk result (self.new ≡ told_links (effect_of change.now ∷ []) self.old) }
         ensures sent { OnOk result (sent.new.items ≡ sent.old.items ++ told_outputs base.now (effect_of change.now ∷ []) (n, self.old)) }
+        ensures read { OnOk result (EachCanBeSent (messages_told base.now (effect_of change.now ∷ []) (n, self.old))) }
     {
         let Some(link) = self.links.get_mut(&change.path) else {
             return Ok(());

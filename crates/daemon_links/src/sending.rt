@@ -6,6 +6,7 @@ ghost use Rattle.rpc_message.specs.declared.messages.ToEditor.TheVariants.{Edit}
 ghost use Rattle.text_position.specs.Changes.{edits_of};
 ghost use Rattle.transform.specs.Carried.{IsChain};
 ghost use Rattle.daemon_core.specs.Outputs.{whole_queue, send};
+ghost use Rattle.daemon_core.specs.Sending.{CanBeSent, EachCanBeSent};
 ghost use Rattle.daemon_links.specs.Sending.{deltas_of, messages_of};
 
 use daemon_core::Output;
@@ -20,9 +21,11 @@ use tt_base::{List, SharedPath, Text};
 
 /// A message as a frame on a connection.
 pub fn send(alloc: Global, n: u64, message: &ToEditor) -> Result<Output, AllocError>
-    ensures { IfOk result (λ output. output ≡ send n message.now) }
+    ensures frame { IfOk result (λ output. output ≡ send n message.now) }
+    ensures reads { OnOk result (CanBeSent message.now) }
 {
     let body = write_message(alloc, message)?;
+    let _size = body.len();
     let frame = write_frame(alloc, body.as_slice())?;
     Ok(Output::Send(n, frame))
 }
@@ -34,7 +37,8 @@ pub fn send_all(
     messages: &[ToEditor],
     sent: &mut Vec<Output>,
 ) -> Result<(), AllocError>
-    ensures { OnOk result (sent.new.items ≡ sent.old.items ++ map (send n) messages.now) }
+    ensures frames { OnOk result (sent.new.items ≡ sent.old.items ++ map (send n) messages.now) }
+    ensures read { OnOk result (EachCanBeSent messages.now) }
 {
     for message in messages {
         sent.push(send(alloc, n, message)?)?;

@@ -7,6 +7,7 @@ use Rattle.rpc_message.specs.Messages.{message_of}
 use Rattle.daemon_core.specs.History.{History}
 use Rattle.daemon_core.specs.Laws.{IsServing}
 use Rattle.daemon_core.specs.Outputs.{Served, serve, outcome_of}
+use Rattle.daemon_core.specs.Sending.{AllCanBeSent}
 use Rattle.daemon_core.specs.State.{Links, State, is_number}
 use Rattle.daemon_core.specs.declared.events.Event.TheVariants.{EditorBegan, Ended, EditorFrame}
 use Rattle.daemon_core.proofs.ServeLemmas.{goes_on}
@@ -44,3 +45,9 @@ pub heard_serving : (base : BaseView) (history made : History) (before connectio
 heard_serving base history made before connections after n body served serving same serves change =
     subst IsServing (ap (λ (v : Served). v.state) (heard_served base history made before connections after n body served same serves change))
     (goes_on (state_of base history before) (EditorFrame n body) serving)
+
+-- what a frame sends can be sent, said of the daemon before
+pub heard_read : (base : BaseView) (history : History) (before connections after : List (ℕ × Links)) (n : ℕ) (body : List ℕ) (served : InCode) → connections ≡ before
+    → Serves (state_of base history connections) n body after served → AllCanBeSent (state_of base history before) (EditorFrame n body)
+heard_read base history before connections after n body served same serves =
+    subst (λ (cs : List (ℕ × Links)). AllCanBeSent (state_of base history cs) (EditorFrame n body)) same serves.read

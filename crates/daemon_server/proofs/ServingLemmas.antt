@@ -19,14 +19,17 @@ use Rattle.rpc_message.specs.declared.messages.ToEditor.{ToEditor}
 use Rattle.daemon_core.specs.History.{History}
 use Rattle.daemon_core.specs.Outcome.{Effect, Outcome, own_links, told_links}
 use Rattle.daemon_core.specs.Outputs.{send, reply, told_outputs, sent_to_others, stop_if, outputs, id_of, outcome_of}
+use Rattle.daemon_core.specs.Sending.{CanBeSent, EachCanBeSent, AllCanBeSent, messages_told, messages_to_others, messages_back}
 use Rattle.daemon_core.specs.Serving.{on_message, or_refusal}
 use Rattle.daemon_core.specs.State.{Links, State, is_number, links_of}
+use Rattle.daemon_core.specs.declared.events.Event.TheVariants.{EditorFrame}
 use Rattle.daemon_core.specs.declared.events.Output.{Output}
 use Rattle.daemon_core.proofs.MapLemmas.{number_same}
+use Rattle.daemon_core.proofs.SendingLemmas.{all_appended}
 use Rattle.daemon_links.specs.declared.changes.Change.{Change}
 use Rattle.daemon_links.proofs.MapLemmas.{put_back, none_there}
 use Rattle.daemon_server.specs.Following.{answer_of, desk, Changes, Handles}
-use Rattle.daemon_server.specs.Telling.{effects_if, made_if, Serves}
+use Rattle.daemon_server.specs.Telling.{effects_if, made_if, AreRead, Serves}
 use Rattle.daemon_server.specs.declared.frames.Served.{Served}
 use Rattle.daemon_server.specs.declared.messages.Heard.{Heard}
 
@@ -95,6 +98,7 @@ pub record Begun (s : State) (n : ℕ) (links own : Links) (body : List ℕ) (he
   pub rest : others ≡ filter (λ c. not (is_number n c.0)) s.connections
   pub hears : Hears s.base s.history links own body heard
   pub sends : Sends s.base n heard others after served
+  pub read : AreRead s.base heard others
 
 begun_change : (s : State) (n : ℕ) (links own : Links) (body : List ℕ) (heard : Heard) (others after : List (ℕ × Links)) (served : Served)
     → Begun s n links own body heard others after served → Changes s (outcome_of s n (message_of body)) heard.handled.change
@@ -115,6 +119,33 @@ sent_all s n links own body heard others after served h =
     ∙ (append_assoc (map (send n) replied ++ map (send n) heard.handled.messages) told (stop_if heard.handled.shuts_down)
     ∙ (ap (λ (own_sent : List Output). own_sent ++ (told ++ stop_if heard.handled.shuts_down)) (sym (map-append (send n) replied heard.handled.messages))
     ∙ (λ i. map (send n) (reply (h.hears.id i) (sym handles.answer i) ++ handles.messages i) ++ (told_same i ++ stop_if (sym handles.stops i)))))
+
+-- what all are told but the message's own connection
+read_by_others : (n : ℕ) (base : BaseView) (effects : List Effect) (connections : List (ℕ × Links))
+    → flat_map (messages_told base effects) (filter (λ c. not (is_number n c.0)) connections) ≡ flat_map (messages_to_others n base effects) connections
+read_by_others n base effects [] = refl
+read_by_others n base effects (c ∷ connections) = by (is_number n c.0) (read_by_others n base effects connections) where
+  rest : List (ℕ × Links)
+  rest = filter (λ (x : ℕ × Links). not (is_number n x.0)) connections
+
+  by : (b : Bool) → flat_map (messages_told base effects) rest ≡ flat_map (messages_to_others n base effects) connections
+      → flat_map (messages_told base effects) (cond (not b) (c ∷ rest) rest) ≡ cond b [] (messages_told base effects c) ++ flat_map (messages_to_others n base effects) connections
+  by true later = later
+  by false later = ap (λ (ms : List ToEditor). messages_told base effects c ++ ms) later
+
+read_all : (s : State) (n : ℕ) (links own : Links) (body : List ℕ) (heard : Heard) (others after : List (ℕ × Links)) (served : Served)
+    → Begun s n links own body heard others after served → AllCanBeSent s (EditorFrame n body)
+read_all s n links own body heard others after served h =
+    let o : Outcome = outcome_of s n (message_of body) in
+    let handles : Handles (desk s.base s.history (links_of s n)) o own heard.handled = handled_there s n links own body heard h.links_are h.hears in
+    let told_same : flat_map (messages_told s.base (effects_if heard.handled.change)) others ≡ flat_map (messages_to_others n s.base o.effects) s.connections =
+    (λ i. flat_map (messages_told s.base (effects_same s o heard.handled.change (begun_change s n links own body heard others after served h) i)) (h.rest i))
+    ∙ read_by_others n s.base o.effects s.connections in
+    let back_same : reply heard.id (answer_of heard.handled.answer) ++ heard.handled.messages ≡ messages_back s n (id_of (message_of body)) o =
+    λ i. reply (h.hears.id i) (sym handles.answer i) ++ handles.messages i in
+    all_appended CanBeSent (messages_back s n (id_of (message_of body)) o) (flat_map (messages_to_others n s.base o.effects) s.connections)
+    (subst EachCanBeSent back_same (all_appended CanBeSent (reply heard.id (answer_of heard.handled.answer)) heard.handled.messages h.read.reply h.read.own))
+    (subst EachCanBeSent told_same h.read.told)
 
 told_after : (s : State) (n : ℕ) (links own : Links) (body : List ℕ) (heard : Heard) (others after : List (ℕ × Links)) (served : Served)
     → Begun s n links own body heard others after served
@@ -145,6 +176,7 @@ serves_there s n links own body heard others after now served h sorted found put
           ∙ ((λ i. insert_entry nat_cmp (told_after s n links own body heard others after served h i) n ((handles.own_is ∙ ap (own_links o.own) (sym h.links_are)) i))
           ∙ put_back nat_cmp nat_cmp_total n (own_links o.own) (told_links o.effects) (number_same n) s.connections links sorted found);
       change = changed_all s n links own body heard others after served h;
+      read = read_all s n links own body heard others after served h;
     }
 
 -- a frame of one that is not
@@ -156,4 +188,5 @@ serves_nowhere s n links own body heard others after served h none = record {
       told_after s n links own body heard others after served h
       ∙ none_there nat_cmp nat_cmp_total n (own_links (outcome_of s n (message_of body)).own) (told_links (outcome_of s n (message_of body)).effects) s.connections none;
   change = changed_all s n links own body heard others after served h;
+  read = read_all s n links own body heard others after served h;
 }

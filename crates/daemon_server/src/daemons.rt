@@ -2,6 +2,7 @@ ghost use Rattle.std.specs.Prelude.{◌≡◌, ◌↔◌, ◌<◌, ◌^◌, ◌-
 ghost use Rattle.std.specs.Option.{option_copied};
 ghost use Rattle.daemon_core.specs.History.{view_at};
 ghost use Rattle.daemon_core.specs.Outputs.{serve};
+ghost use Rattle.daemon_core.specs.Sending.{AllCanBeSent};
 ghost use Rattle.daemon_core.specs.State.{new_state};
 ghost use Rattle.daemon_core.specs.declared.events.Event.TheVariants.{EditorBegan, Ended, EditorFrame};
 
@@ -91,6 +92,7 @@ impl Daemon {
     fn hear(&mut self, alloc: Global, n: u64, body: &Blob) -> Result<List<Output>, AllocError>
         requires { self.old.history.held < 2 ^ 64 - 2 }
         ensures ok { IfOk result (λ outputs. serve self.old (EditorFrame n body.now) ≡ record { state = self.new; outputs = outputs }) }
+        ensures sent { OnOk result (AllCanBeSent self.old (EditorFrame n body.now)) }
         ensures err { OnErr result (self.new ≡ record self.old { connections = [] }) }
     {
         let mut connections = replace(&mut self.connections, Connections::none(alloc));
@@ -113,6 +115,8 @@ impl Daemon {
     pub fn handle(&mut self, alloc: Global, event: Event) -> Result<List<Output>, AllocError>
         requires { self.old.history.held < 2 ^ 64 - 2 }
         ensures ok { IfOk result (λ outputs. serve self.old event ≡ record { state = self.new; outputs = outputs }) }
+        // Each message that is sent is read as that message.
+        ensures sent { OnOk result (AllCanBeSent self.old event) }
         ensures err { OnErr result (self.new ≡ record self.old { connections = [] }) }
     {
         match event {

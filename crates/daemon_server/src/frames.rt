@@ -4,9 +4,10 @@ ghost use Rattle.daemon_core.specs.History.{text_at};
 ghost use Rattle.daemon_core.specs.Laws.{IsServing};
 ghost use Rattle.daemon_core.specs.Outcome.{told_links};
 ghost use Rattle.daemon_core.specs.Outputs.{told_outputs, send, reply, stop_if};
+ghost use Rattle.daemon_core.specs.Sending.{EachCanBeSent, messages_told};
 ghost use Rattle.daemon_server.specs.Following.{answer_of};
 ghost use Rattle.daemon_server.specs.Parts.{state_of};
-ghost use Rattle.daemon_server.specs.Telling.{effects_if, made_if, AllConnected, Serves};
+ghost use Rattle.daemon_server.specs.Telling.{effects_if, made_if, AllConnected, AreRead, Serves};
 
 use crate::handled::send_reply;
 use crate::messages::{Heard, hear};
@@ -56,6 +57,7 @@ fn tell_others(
     requires room { files.now.held < 2 ^ 64 - 2 }
     ensures links { OnOk result (others.new ≡ map (λ c. (c.0, told_links (effects_if change.now) c.1)) others.old) }
     ensures sent { OnOk result (sent.new.items ≡ sent.old.items ++ flat_map (told_outputs base.now (effects_if change.now)) others.old) }
+    ensures read { OnOk result (EachCanBeSent (flat_map (messages_told base.now (effects_if change.now)) others.old)) }
 {
     match change {
         None => Ok(()),
@@ -79,6 +81,7 @@ fn send_heard(
     ensures change { IfOk result (λ served. served.change ≡ heard.handled.change) }
     ensures sent { IfOk result (λ served. served.sent ≡ map (send n) (reply heard.id (answer_of heard.handled.answer)) ++ map (send n) heard.handled.messages
         ++ flat_map (told_outputs base.now (effects_if heard.handled.change)) others.old ++ stop_if heard.handled.shuts_down) }
+    ensures read { OnOk result (AreRead base.now heard others.old) }
 {
     let Heard { id, handled } = heard;
     let mut sent = Vec::new(alloc);

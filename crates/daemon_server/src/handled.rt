@@ -2,6 +2,7 @@ ghost use Rattle.std.specs.Prelude.{◌≡◌, [], ◌∷◌, ◌++◌, map, Non
 ghost use Rattle.daemon_core.specs.Outcome.{Outcome};
 ghost use Rattle.daemon_core.specs.Outputs as spec;
 ghost use Rattle.daemon_core.specs.Refusing.{Step};
+ghost use Rattle.daemon_core.specs.Sending.{EachCanBeSent};
 ghost use Rattle.daemon_core.specs.Serving.{or_refusal};
 ghost use Rattle.daemon_core.specs.State.{Links, State};
 ghost use Rattle.daemon_server.specs.Following.{answer_of, Handles, Follows};
@@ -79,7 +80,8 @@ pub(crate) fn send_reply(
     answer: Answer,
     sent: &mut Vec<Output>,
 ) -> Result<(), AllocError>
-    ensures { OnOk result (sent.new.items ≡ sent.old.items ++ map (spec.send n) (spec.reply id (answer_of answer))) }
+    ensures frames { OnOk result (sent.new.items ≡ sent.old.items ++ map (spec.send n) (spec.reply id (answer_of answer))) }
+    ensures read { OnOk result (EachCanBeSent (spec.reply id (answer_of answer))) }
 {
     let Some(message) = reply(id, answer) else {
         return Ok(());

@@ -10,12 +10,11 @@ use Rattle.bridge_world.proofs.Delivery.{both_delivered, stands_there, leads_wit
 use Rattle.bridge_world.proofs.HeldLemmas.{base_of-one_shown}
 use Rattle.bridge_world.proofs.MessageLemmas.{own_grows}
 use Rattle.rpc_frame.specs.Stream.{Reads}
-use Rattle.rpc_message.specs.Replies.{IsReply}
+use Rattle.rpc_message.specs.Replies.{IsReply, HasSignedId}
 use Rattle.rpc_message.specs.Written.{written}
 use Rattle.rpc_message.specs.declared.messages.MessageId.TheVariants.{Number}
 use Rattle.rpc_message.specs.declared.messages.ToEditor.{ToEditor}
 use Rattle.rpc_message.specs.declared.messages.ToEditor.TheVariants.{Success, Edit}
-use Rattle.message_bytes.proofs.BodyLemmas.{answer_comes_back}
 use Rattle.text_position.specs.Changes.{edits_of}
 use Rattle.editor_client.specs.Editor.{Editor}
 use Rattle.editor_client.specs.Hearing.{admitted, to_show, is_last_open, heard, note_of}
@@ -300,6 +299,14 @@ printed_alike New n uri ids s r m c wire says =
 printed_alike Old n uri ids s r m c wire says =
     ap (λ k. note_line n (note_of k c)) says.1 ∙ edit_prints_nothing n (to_show uri r says.0 c)
 
+-- What a mark says has no id below 0.
+says_signed : (k : Kind) (uri : List ℕ) (ids : Ids) (s r : ℕ) (m : ToEditor) → Says uri ids k s r m → HasSignedId m
+says_signed OpenDone uri ids s r m says = subst HasSignedId (sym says.1.0) tt
+says_signed Done uri ids s r m says = subst HasSignedId (sym says.1.0) tt
+says_signed (Failed cause) uri ids s r m says = subst HasSignedId (sym says.1.0.is) tt
+says_signed New uri ids s r m says = subst HasSignedId (sym says.1) tt
+says_signed Old uri ids s r m says = subst HasSignedId (sym says.1) tt
+
 -- The first frame under way.
 
 -- the seat behind the first message
@@ -317,7 +324,7 @@ delivered_first view uri n x y note e (f ∷ wire) (m ∷ ms) good h came =
     let body : came.body ≡ written m =
     one_body came.body (written m) came.left h.sent.0.small (subst (λ f. Reads (2 ^ 64 - 1) f (came.body ∷ []) came.left) (heads fronts) came.reads) in
     let message : came.heard.message ≡ m =
-    one_message came.body came.heard.message m came.heard.reply (subst (λ b. IsReply b m) (sym body) (answer_comes_back m h.sent.0.fits)) in
+    one_message came.body came.heard.message m came.heard.reply (subst (λ b. IsReply b m) (sym body) (h.sent.0.reads (says_signed f.mark.kind uri (record { opening = h.opening; requests = x.client.requests; session = e.session }) f.mark.session f.revision m h.down.0))) in
     let client : y.client ≡ heard m x.client = came.heard.left ∙ ap (λ k. heard k x.client) message in
     let seat : seat_of (heard m x.client) x.up ms ≡ y =
     ap (λ c. record { client = c; up = x.up; down = map frame_of ms }) (sym client)

@@ -40,13 +40,14 @@ use Rattle.daemon_core.specs.Outcome.{LinkEvent, Stays, Opened, Taken, Gone, Out
 use Rattle.daemon_core.specs.Outcome as outcome
 use Rattle.daemon_core.specs.Outputs.{edit_messages, of_link, own_messages, reply, outputs, outcome_of, id_of, whole_queue}
 use Rattle.daemon_core.specs.Refusing.{Step, ◌>>=◌, unless_bad_uri, open_link, no_link, text_shown, unless_bad_revision, unless_bad_edits, may_grow}
+use Rattle.daemon_core.specs.Sending.{CanBeSent}
 use Rattle.daemon_core.specs.Serving.{with_change, changed, opening, on_message, or_refusal}
 use Rattle.daemon_core.specs.State.{Links, State, link_at, links_of, link_of}
 use Rattle.daemon_core.proofs.FileLemmas.{text_made}
 use Rattle.plain_world.specs.Handling.{plain_step, verdict_of, cause_of}
 use Rattle.frame_world.specs.Seats.{Seat}
 use Rattle.frame_world.specs.Serving.{sent_on, link_held, IsAt, answer_messages, plain_step_of, editor_after, HandlesAlike}
-use Rattle.frame_world.specs.Tie.{Ids, IsOf, Asks, IsBody, AreBodies, CanBeSent, Says, AreSaid, AreWritten, frame_of, IsTiedWith, IsTied}
+use Rattle.frame_world.specs.Tie.{Ids, IsOf, Asks, IsBody, AreBodies, Says, AreSaid, AreWritten, frame_of, IsTiedWith, IsTied}
 use Rattle.frame_world.proofs.BodyLemmas.{message, bodies_weaker, nowhere}
 use Rattle.frame_world.proofs.LookLemmas.{once_found, own_after, opened_at, opened_beside, changed_here, changed_none, gone_at, gone_none}
 use Rattle.frame_world.proofs.SentLemmas.{sent_own, said-append, said-aged, said-new, written-new, written_behind, old-aged, old-unlinked}

@@ -9,3 +9,4 @@ pub mod OwnLemmas
 pub mod TellLemmas
 pub mod ChangeLemmas
 pub mod ConnectionLemmas
+pub mod SendableLemmas

@@ -23,12 +23,13 @@ use Rattle.rpc_message.specs.declared.messages.ToEditor.TheVariants.{Edit}
 use Rattle.daemon_core.specs.History.{is_path}
 use Rattle.daemon_core.specs.Outcome.{Effect, Outcome, told_links}
 use Rattle.daemon_core.specs.Outputs.{of_link, told_messages, others_messages, reply, own_messages, send, told_outputs, sent_to_others, stop_if, outputs}
+use Rattle.daemon_core.specs.Sending.{CanBeSent}
 use Rattle.daemon_core.specs.State.{Links, State, is_number, link_at, links_of, at_path}
 use Rattle.daemon_core.proofs.FileLemmas.{is_path_itself, path_same}
 use Rattle.daemon_core.proofs.MapLemmas.{number_same}
 use Rattle.frame_world.specs.Seats.{Seat}
 use Rattle.frame_world.specs.Serving.{sent_on, link_held, IsAt, HasNone, HasOnce, told_in_turn, IsOneChange, TellsAlike}
-use Rattle.frame_world.specs.Tie.{Ids, CanBeSent, AreSaid, IsWritten, AreWritten, text_behind, frame_of, IsTied}
+use Rattle.frame_world.specs.Tie.{Ids, AreSaid, IsWritten, AreWritten, text_behind, frame_of, IsTied}
 use Rattle.frame_world.proofs.BodyLemmas.{bodies_weaker}
 use Rattle.frame_world.proofs.LookLemmas.{told_after, changed_at, changed_here, changed_none}
 use Rattle.frame_world.proofs.SentLemmas.{number_itself, sent_on-append, sent_on-own, sent_on-other, sent_on-stop, said-append}

@@ -14,6 +14,7 @@ use Rattle.bridge_world.specs.Tie.{Good}
 use Rattle.daemon_core.specs.History.{text_at}
 use Rattle.daemon_core.specs.Outcome.{Outcome}
 use Rattle.daemon_core.specs.Outputs.{others_messages, outcome_of}
+use Rattle.daemon_core.specs.Sending.{CanBeSent}
 use Rattle.daemon_core.specs.State.{State, is_number}
 use Rattle.plain_world.specs.Lines.{first_line}
 use Rattle.message_bytes.specs.Fitting.{IsCount}
@@ -27,7 +28,7 @@ use Rattle.editor_client.specs.declared.notes.HeardNote.{HeardNote}
 use Rattle.frame_world.specs.Lines.{note_line}
 use Rattle.frame_world.specs.Seats.{Seat, opened, closed, typed, lost, IsDelivered}
 use Rattle.frame_world.specs.Serving.{IsAt, answer_messages, HandlesAlike, IsOneChange, TellsAlike, Connections}
-use Rattle.frame_world.specs.Tie.{CanBeSent, IsTied}
+use Rattle.frame_world.specs.Tie.{IsTied}
 
 -- What the daemon reads.
 

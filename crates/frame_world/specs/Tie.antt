@@ -1,6 +1,6 @@
 -- What ties an editor that a program keeps to one of the machine with counts: the ids of requests tell their sessions, and
 -- a frame says what its mark and its delta say.
-use Rattle.std.specs.Prelude.{◌≡◌, ◌⊎◌, ℕ, ◌^◌, ◌<◌, ◌≤◌, List, [], ◌∷◌, length, map, Some, Ok}
+use Rattle.std.specs.Prelude.{◌≡◌, ◌⊎◌, ℕ, ◌<◌, ◌≤◌, List, [], ◌∷◌, map, Some, Ok}
 use Rattle.delta.specs.Cells.{Cells, applied, IsNormal}
 use Rattle.text_position.specs.Changes.{edits_of}
 use Rattle.text_position.specs.Edits.{delta_of_edits}
@@ -19,7 +19,7 @@ use Rattle.rpc_message.specs.declared.messages.MessageId.TheVariants.{Number}
 use Rattle.rpc_message.specs.declared.messages.ToEditor.{ToEditor}
 use Rattle.rpc_message.specs.declared.messages.ToEditor.TheVariants.{Success, Refused, Edit}
 use Rattle.rpc_message.specs.declared.refusals.Refusal.{Refusal}
-use Rattle.message_bytes.specs.Fitting.{IsAnswerFitting}
+use Rattle.daemon_core.specs.Sending.{CanBeSent}
 use Rattle.editor_client.specs.declared.states.ClientState.{ClientState}
 use Rattle.editor_client.specs.declared.states.ClientState.TheVariants as client_state
 use Rattle.plain_world.specs.Handling.{cause_of}
@@ -76,11 +76,6 @@ AreBodies uri ids a (m ∷ sent) [] = ⊥
 -- a message as a frame
 abbrev pub frame_of : ToEditor → List ℕ
 frame_of message = frame_bytes (written message)
-
--- it can be sent, and read as what it is
-pub record CanBeSent (message : ToEditor) : Type 0 where
-  pub fits : IsAnswerFitting message
-  pub small : length (written message) < 2 ^ 64
 
 -- an error tells a cause
 pub record Tells (cause : Cause) (id : ℕ) (message : ToEditor) : Type 0 where

@@ -27,6 +27,7 @@ returns-in_ok-put-in-Some c =
       rest = c.take.ensures.others;
       hears = record { id = c.in_ok-heard-in-Some.ensures.id; handled = c.in_ok-heard-in-Some.ensures.handled };
       sends = record { links = c.in_ok-served-in-Some.ensures.links; change = c.in_ok-served-in-Some.ensures.change; sent = c.in_ok-served-in-Some.ensures.sent };
+      read = c.in_ok-served-in-Some.ensures.read;
     })
     c.take.ensures.ordered c.in-Some.ensures.links c.in_ok-put-in-Some.ensures.ok
 
@@ -39,5 +40,6 @@ returns-in_ok-served-in-None c =
       rest = c.take.ensures.others;
       hears = record { id = c.in_ok-heard-in-None.ensures.id; handled = c.in_ok-heard-in-None.ensures.handled };
       sends = record { links = c.in_ok-served-in-None.ensures.links; change = c.in_ok-served-in-None.ensures.change; sent = c.in_ok-served-in-None.ensures.sent };
+      read = c.in_ok-served-in-None.ensures.read;
     })
     c.in-None.ensures.links

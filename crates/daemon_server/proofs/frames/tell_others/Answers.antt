@@ -1,5 +1,5 @@
 use Rattle.std.proofs.Common.{ap}
-use Rattle.daemon_links.proofs.TellLemmas.{all_untold, all_unsent}
+use Rattle.daemon_links.proofs.TellLemmas.{all_untold, all_unsent, none_read}
 use Rattle.daemon_server.specs.Telling.{effects_if}
 use Rattle.daemon_server.proofs.ConnectedLemmas.{all_may_tell}
 use Rattle.daemon_server.proofs.frames.tell_others.Goals as goal
@@ -13,3 +13,6 @@ returns-in-None-clause-links c = all_untold (effects_if c.args.change.now) (ap e
 pub returns-in-None-clause-sent : goal.returns-in-None-clause-sent
 returns-in-None-clause-sent c =
     all_unsent c.args.base.now (effects_if c.args.change.now) c.args.others.now c.args.sent.now.items (ap effects_if c.in-None.is)
+
+pub returns-in-None-clause-read : goal.returns-in-None-clause-read
+returns-in-None-clause-read c = none_read c.args.base.now (effects_if c.args.change.now) (ap effects_if c.in-None.is) c.args.others.now

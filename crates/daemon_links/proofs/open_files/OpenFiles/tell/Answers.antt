@@ -7,7 +7,7 @@ use Rattle.text_position.specs.Changes.{edits_of}
 use Rattle.daemon_core.specs.Outputs.{send}
 use Rattle.daemon_core.specs.declared.events.Output.{Output}
 use Rattle.daemon_links.specs.Changing.{effect_of}
-use Rattle.daemon_links.proofs.TellLemmas.{none_told, one_told, may_push, edit_sent}
+use Rattle.daemon_links.proofs.TellLemmas.{none_told, one_told, may_push, edit_sent, one_read, untold_read}
 use Rattle.daemon_links.proofs.open_files.OpenFiles.tell.Goals as goal
 
 pub returns-in_default-clause-links : goal.returns-in_default-clause-links
@@ -29,8 +29,21 @@ pub returns-clause-sent : goal.returns-clause-sent
 returns-clause-sent c = c.in_ok-push.ensures.items ∙ ap (λ (o : List Output). c.args.sent.now.items ++ o)
     (edit_sent c.args.base.now c.args.n (effect_of c.args.change.now) c.args.text.now c.self.inside.links.entries c.args.self.now c.in-Some.link.now
     c.in_ok-send.field-0 c.requires.told c.self.view_is c.in-Some.ensures.value
-    (c.in_ok-send.ensures
+    (c.in_ok-send.ensures.frame
     ∙ ap (send c.args.n)
     (c.in_ok-message.ensures
     ∙ (ap (λ (f : BridgeFrame). Edit (uri_of c.args.base.now c.args.change.now.path) f.revision (edits_of c.args.text.now f.delta)) c.in_ok-frame.ensures.frame
     ∙ ap (λ d. Edit (uri_of c.args.base.now c.args.change.now.path) c.in-Some.link.now.taken (edits_of c.args.text.now d)) c.in_ok-copied.ensures))))
+
+pub returns-in_default-clause-read : goal.returns-in_default-clause-read
+returns-in_default-clause-read c =
+    untold_read c.args.base.now c.args.n (effect_of c.args.change.now) c.self.inside.links.entries c.args.self.now c.self.view_is c.in_default.ensures.value
+
+pub returns-clause-read : goal.returns-clause-read
+returns-clause-read c =
+    one_read c.args.base.now c.args.n (effect_of c.args.change.now) c.args.text.now c.self.inside.links.entries c.args.self.now c.in-Some.link.now
+    c.in_ok-message.message c.requires.told c.self.view_is c.in-Some.ensures.value
+    (c.in_ok-message.ensures
+    ∙ (ap (λ (f : BridgeFrame). Edit (uri_of c.args.base.now c.args.change.now.path) f.revision (edits_of c.args.text.now f.delta)) c.in_ok-frame.ensures.frame
+    ∙ ap (λ d. Edit (uri_of c.args.base.now c.args.change.now.path) c.in-Some.link.now.taken (edits_of c.args.text.now d)) c.in_ok-copied.ensures))
+    c.in_ok-send.ensures.reads
