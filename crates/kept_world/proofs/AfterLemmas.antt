@@ -1,29 +1,13 @@
 -- What a daemon is after a message, with all its connections and with those that a script feeds alone.
-use Rattle.std.proofs.Common.{◌≡◌, ℕ, Bool, true, false, cond, nat_lt, List, [], ◌∷◌, map, filter, Option, Some, None, Result, Ok, Err, refl, sym, ap, ◌∙◌, subst}
+use Rattle.std.proofs.Common.{◌≡◌, ℕ, Bool, true, false, cond, nat_lt, List, [], ◌∷◌, map, filter, Option, Some, refl, sym, ap, ◌∙◌}
 use Rattle.std.specs.Prelude.{if◌then◌else◌}
 use Rattle.std.specs.Map.{lookup}
 use Rattle.std.specs.Option.{unwrap_or}
-use Rattle.transform.specs.Carried.{past_list}
-use Rattle.editor_bridge.specs.Faults.{revision_fault}
-use Rattle.editor_bridge.specs.Link.{Link}
-use Rattle.file_uri.specs.Base.{BaseView}
-use Rattle.file_uri.specs.PathOf.{path_of}
-use Rattle.bridge_world.specs.Plain as P
-use Rattle.rpc_message.specs.declared.faults.MessageFault.{MessageFault}
-use Rattle.rpc_message.specs.declared.faults.MessageFault.TheVariants as fault
-use Rattle.rpc_message.specs.declared.messages.FromEditor.{FromEditor}
-use Rattle.rpc_message.specs.declared.messages.FromEditor.TheVariants.{Open, Close, Edit, Cursor, Shutdown, Response}
-use Rattle.rpc_message.specs.declared.messages.Incoming.{Incoming}
-use Rattle.daemon_core.specs.History.{History, view_at}
-use Rattle.daemon_core.specs.Outcome.{Outcome, links_after, own_links, told_links, state_after}
-use Rattle.daemon_core.specs.Outputs.{outcome_of}
-use Rattle.daemon_core.specs.Refusing.{Step}
-use Rattle.daemon_core.specs.Serving.{opening, on_message, or_refusal}
+use Rattle.daemon_core.specs.Outcome.{Outcome, links_after, own_links, told_links}
 use Rattle.daemon_core.specs.State.{Links, State, is_number, links_of}
 use Rattle.daemon_core.proofs.MapLemmas.{number_same}
-use Rattle.plain_world.specs.Handling.{plain_step, first_step}
 use Rattle.plain_world.specs.declared.TheConstants.{FIRST_OWN}
-use Rattle.kept_world.specs.Tie.{is_fed_one, numbers_of}
+use Rattle.kept_world.specs.Tie.{is_fed_one}
 use Rattle.kept_world.proofs.PrintedLemmas.{own_apart}
 
 -- ---- the connections

@@ -1,5 +1,5 @@
 -- A daemon begins, and a connection of the script's own begins at one.
-use Rattle.std.proofs.Common.{◌≡◌, ◌⊎◌, inl, inr, ℕ, ◌+◌, ◌==◌, ◌≤◌, ◌<◌, true, false, ◌&&◌, List, [], ◌∷◌, ◌++◌, length, Option, Some, None, nat_lt, refl, sym, ap, ◌∙◌, subst, arith}
+use Rattle.std.proofs.Common.{◌≡◌, ◌⊎◌, inl, inr, ℕ, ◌+◌, ◌==◌, ◌≤◌, ◌<◌, false, ◌&&◌, [], ◌∷◌, ◌++◌, length, Option, Some, None, nat_lt, refl, sym, ap, ◌∙◌, subst, arith}
 use Rattle.std.specs.Prelude.{slice_get, slice_set, option_and_then}
 use Rattle.std.specs.List.{AllZip}
 use Rattle.std.specs.List.Sorted.{IsStrictlySortedBy}
@@ -14,7 +14,6 @@ use Rattle.daemon_core.specs.Outputs.{serve}
 use Rattle.daemon_core.specs.State.{new_state}
 use Rattle.daemon_core.specs.declared.events.Event.TheVariants.{EditorBegan}
 use Rattle.daemon_core.proofs.ServeLemmas.{began}
-use Rattle.frame_world.specs.Serving.{IsAt}
 use Rattle.frame_world.proofs.ConnectionLemmas.{connections_are_alike}
 use Rattle.plain_world.specs.Playing as plain
 use Rattle.plain_world.specs.World as P
@@ -24,7 +23,7 @@ use Rattle.plain_world.proofs.StepLemmas.{allowed_if}
 use Rattle.kept_world.specs.Events.{KeptPlayed}
 use Rattle.kept_world.specs.Steps.{quietly, begins}
 use Rattle.kept_world.specs.Tie.{IsTiedHost, HostTied, ConnectedAs, IsTiedEditor, AreOnTheirOwn, Ties}
-use Rattle.kept_world.specs.Worlds.{KeptHost, KeptEditor, KeptWorld, next_connection, if_there, running, editor_of}
+use Rattle.kept_world.specs.Worlds.{KeptHost, KeptEditor, KeptWorld, next_connection, if_there, running}
 use Rattle.kept_world.proofs.Alike.{Comes, comes_to}
 use Rattle.kept_world.proofs.FedLemmas.{own_put}
 use Rattle.kept_world.proofs.HostLemmas.{hosts_set, host_more, beside_host}

@@ -1,5 +1,5 @@
 -- Connections that a script feeds begin and end in both worlds.
-use Rattle.std.proofs.Common.{◌≡◌, ℕ, ◌+◌, ◌≤◌, ◌<◌, Bool, true, false, ◌&&◌, not, List, [], ◌∷◌, filter, Option, Some, None, is_some, nat_lt, refl, sym, ap, ◌∙◌, subst, arith}
+use Rattle.std.proofs.Common.{◌≡◌, ℕ, ◌≤◌, ◌<◌, Bool, true, false, ◌&&◌, not, List, [], filter, Option, Some, is_some, nat_lt, refl, sym, ap, ◌∙◌, arith}
 use Rattle.std.specs.Prelude.{option_and_then}
 use Rattle.std.specs.BTreeMap.{insert_entry}
 use Rattle.std.specs.Map.{lookup}
@@ -12,7 +12,7 @@ use Rattle.bridge_world.specs.Counted as N
 use Rattle.bridge_world.specs.Lists.{only_if}
 use Rattle.daemon_core.specs.Outputs.{serve}
 use Rattle.daemon_core.specs.State.{is_number}
-use Rattle.daemon_core.specs.declared.events.Event.TheVariants.{EditorBegan, Ended}
+use Rattle.daemon_core.specs.declared.events.Event.TheVariants.{EditorBegan}
 use Rattle.daemon_core.proofs.MapLemmas.{number_same}
 use Rattle.daemon_core.proofs.ServeLemmas.{began, ended}
 use Rattle.frame_world.specs.Serving.{IsAt}
@@ -30,7 +30,7 @@ use Rattle.kept_world.specs.Worlds.{KeptHost, KeptWorld, next_connection, runnin
 use Rattle.kept_world.proofs.Alike.{Comes, comes_to}
 use Rattle.kept_world.proofs.FedLemmas.{fed_put, fed_without}
 use Rattle.kept_world.proofs.HostLemmas.{hosts_set, files_set, beside_host}
-use Rattle.kept_world.proofs.NumberLemmas.{numbers, rising_put, rising_without, all_without, each_put, each_without, each_found, apart_if_below}
+use Rattle.kept_world.proofs.NumberLemmas.{rising_put, rising_without, all_without, each_put, each_without, each_found, apart_if_below}
 use Rattle.kept_world.proofs.TieLemmas.{runs_alike, RunsAlike, own_again}
 use Rattle.kept_world.proofs.ZipLemmas.{zip_each}
 

@@ -1,35 +1,32 @@
 -- What comes on a connection that a script feeds does in both worlds alike.
-use Rattle.std.proofs.Common.{◌≡◌, ℕ, ◌<◌, Bool, true, false, nat_lt, List, [], ◌∷◌, ◌++◌, map, filter, Option, Some, None, Result, refl, sym, ap, ◌∙◌, subst, arith}
-use Rattle.std.specs.Prelude.{slice_get, slice_set, if◌then◌else◌}
-use Rattle.std.specs.List.{AllZip, list_any}
+use Rattle.std.proofs.Common.{◌≡◌, ℕ, Bool, true, false, nat_lt, List, map, Some, None, Result, refl, sym, ap, ◌∙◌, subst, arith}
 use Rattle.std.proofs.lemmas.Bool.{ltb-true}
 use Rattle.file_uri.specs.Base.{BaseView}
 use Rattle.rpc_message.specs.Messages.{message_of}
 use Rattle.rpc_message.specs.declared.faults.MessageFault.{MessageFault}
 use Rattle.rpc_message.specs.declared.messages.Incoming.{Incoming}
-use Rattle.rpc_message.specs.declared.messages.MessageId.{MessageId}
 use Rattle.daemon_core.specs.Outcome.{Outcome, links_after, state_after}
 use Rattle.daemon_core.specs.Outputs.{outputs, outcome_of, id_of}
-use Rattle.daemon_core.specs.State.{Links, State, is_number, links_of}
+use Rattle.daemon_core.specs.State.{Links, is_number, links_of}
 use Rattle.daemon_core.specs.declared.events.Event.TheVariants.{EditorFrame}
 use Rattle.daemon_core.specs.declared.events.Output.{Output}
 use Rattle.daemon_core.proofs.ServeLemmas.{after_sound, outcome_sound}
-use Rattle.plain_world.specs.Handling.{Played, told_seats}
+use Rattle.plain_world.specs.Handling.{told_seats}
 use Rattle.plain_world.specs.Lines.{told_lines}
 use Rattle.plain_world.specs.RawFrames as plain
 use Rattle.plain_world.specs.World as P
 use Rattle.plain_world.specs.declared.TheConstants.{FIRST_OWN}
 use Rattle.plain_world.proofs.ListLemmas.{at_set, beside_set}
 use Rattle.frame_world.proofs.ChangeLemmas.{one_change}
-use Rattle.kept_world.specs.Events.{told_editor, is_stop, stops_if, after_event}
-use Rattle.kept_world.specs.Tie.{is_fed_one, IsConnectedAt, ConnectedAs, IsTiedEditor, Ties}
+use Rattle.kept_world.specs.Events.{told_editor, stops_if, after_event}
+use Rattle.kept_world.specs.Tie.{IsConnectedAt, ConnectedAs, IsTiedEditor, Ties}
 use Rattle.kept_world.specs.Worlds.{KeptHost, KeptEditor, KeptWorld, next_connection, running, with_host, without_host}
 use Rattle.kept_world.proofs.AfterLemmas.{fed_after, links_fed}
 use Rattle.kept_world.proofs.Alike.{Alike}
 use Rattle.kept_world.proofs.EventLemmas.{IsSendable, zip_map, set_again, host_after, told_had, plain_stopped, stopped_tied}
 use Rattle.kept_world.proofs.FeedLemmas.{fed_apart}
 use Rattle.kept_world.proofs.HostLemmas.{hosts_set, running_set, running_beside}
-use Rattle.kept_world.proofs.PrintedLemmas.{own_apart, printed_fed, stops_alike}
+use Rattle.kept_world.proofs.PrintedLemmas.{printed_fed, stops_alike}
 use Rattle.kept_world.proofs.SameLemmas.{outcome_alike}
 use Rattle.kept_world.proofs.TieLemmas.{RunsAlike, runs_alike, own_again}
 use Rattle.kept_world.proofs.ToldLemmas.{Tells, told_each}

@@ -1,5 +1,5 @@
 -- What stays tied where a daemon has changed, and none of its files.
-use Rattle.std.proofs.Common.{◌≡◌, inl, inr, ℕ, ◌+◌, ◌==◌, ◌≤◌, ◌<◌, Bool, true, false, List, [], ◌∷◌, Option, Some, None, refl, sym, ap, ◌∙◌, subst, arith}
+use Rattle.std.proofs.Common.{◌≡◌, ℕ, ◌==◌, ◌≤◌, ◌<◌, Bool, true, false, List, Option, Some, None, refl, sym, ap, ◌∙◌, subst, arith}
 use Rattle.std.specs.Prelude.{slice_get, slice_set, option_and_then}
 use Rattle.std.specs.List.{AllZip}
 use Rattle.std.proofs.lemmas.Bool.{eqb-true, eqb-false}
@@ -9,9 +9,9 @@ use Rattle.frame_world.specs.Serving.{IsAt}
 use Rattle.plain_world.specs.World as P
 use Rattle.plain_world.specs.declared.TheConstants.{FIRST_OWN}
 use Rattle.plain_world.proofs.ListLemmas.{at_set, beside_set}
-use Rattle.kept_world.specs.Tie.{IsTiedHost, HostTied, IsConnectedAt, ConnectedAs, IsTiedEditor, Ties}
+use Rattle.kept_world.specs.Tie.{HostTied, IsConnectedAt, ConnectedAs, IsTiedEditor}
 use Rattle.kept_world.specs.Worlds.{KeptHost, KeptEditor, KeptWorld, next_connection, if_there, running}
-use Rattle.kept_world.proofs.TieLemmas.{running_at, RunsAlike, HasFiles, SameFiles, still_tied}
+use Rattle.kept_world.proofs.TieLemmas.{running_at, HasFiles, SameFiles, still_tied}
 use Rattle.kept_world.proofs.ZipLemmas.{zip_set}
 
 -- The daemons.

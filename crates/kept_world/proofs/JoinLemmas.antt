@@ -1,5 +1,5 @@
 -- An editor joins a daemon in both worlds.
-use Rattle.std.proofs.Common.{◌≡◌, inl, inr, ℕ, ◌+◌, ◌==◌, ◌≤◌, ◌<◌, ◌&&◌, List, [], ◌∷◌, ◌++◌, length, Option, Some, None, Ok, nat_le, nat_lt, refl, sym, ap, ◌∙◌, subst, arith}
+use Rattle.std.proofs.Common.{◌≡◌, inl, inr, ℕ, ◌+◌, ◌==◌, ◌≤◌, ◌<◌, ◌&&◌, List, [], ◌∷◌, ◌++◌, length, Option, Some, Ok, nat_le, nat_lt, refl, sym, ap, ◌∙◌, subst, arith}
 use Rattle.std.specs.Prelude.{option_and_then}
 use Rattle.std.proofs.lemmas.Slice.Zip.{AllZip-long}
 use Rattle.file_uri.specs.Base.{BaseView}
@@ -34,7 +34,7 @@ use Rattle.kept_world.proofs.Alike.{Comes, comes_to}
 use Rattle.kept_world.proofs.BeginLemmas.{with_own, own_hosts, beside_own, connection_below, own_new}
 use Rattle.kept_world.proofs.HostLemmas.{running_set}
 use Rattle.kept_world.proofs.NumberLemmas.{none_if_below}
-use Rattle.kept_world.proofs.TieLemmas.{runs_alike, RunsAlike, Has}
+use Rattle.kept_world.proofs.TieLemmas.{runs_alike, RunsAlike}
 use Rattle.kept_world.proofs.ZipLemmas.{zip_each, zip_push, pushed_at}
 
 -- an editor with a path and a text, on a connection

@@ -1,5 +1,5 @@
 -- The laws of whole worlds.
-use Rattle.std.proofs.Common.{◌≡◌, ℕ, false, List, [], Option, Some, None, is_some, refl, sym, ap, ◌∙◌}
+use Rattle.std.proofs.Common.{◌≡◌, is_some, refl}
 use Rattle.file_uri.specs.Base.{BaseView, IsBase}
 use Rattle.replay_script.specs.declared.moves.Move.{Move}
 use Rattle.plain_world.specs.RawFrames.{Reader}

@@ -1,5 +1,5 @@
 -- An editor opens its text in both worlds, on the connection that it has or on a new one.
-use Rattle.std.proofs.Common.{◌≡◌, inl, inr, ℕ, ◌+◌, ◌≤◌, ◌<◌, Bool, true, false, ◌&&◌, List, [], ◌∷◌, length, Option, Some, None, nat_le, refl, sym, ap, ◌∙◌, subst, arith}
+use Rattle.std.proofs.Common.{◌≡◌, inl, inr, ℕ, ◌+◌, ◌≤◌, ◌<◌, true, ◌&&◌, List, length, Option, Some, None, nat_le, refl, sym, ap, ◌∙◌, subst, arith}
 use Rattle.std.specs.Prelude.{slice_get, option_and_then}
 use Rattle.std.proofs.lemmas.Bool.{and_parts}
 use Rattle.file_uri.specs.Base.{BaseView}
@@ -35,7 +35,7 @@ use Rattle.kept_world.proofs.BeginLemmas.{with_own, own_hosts, beside_own, conne
 use Rattle.kept_world.proofs.HostLemmas.{running_set}
 use Rattle.kept_world.proofs.NumberLemmas.{none_if_below}
 use Rattle.kept_world.proofs.StillLemmas.{connected_next, is_closed_alike}
-use Rattle.kept_world.proofs.TieLemmas.{sits_alike, seat_tied, runs_alike, RunsAlike, Has}
+use Rattle.kept_world.proofs.TieLemmas.{sits_alike, seat_tied, runs_alike, RunsAlike}
 use Rattle.kept_world.proofs.ZipLemmas.{zip_set}
 
 closed_if : (state : State) → is_closed state ≡ true → state ≡ Closed

@@ -1,5 +1,5 @@
 -- What an editor does itself leaves the two worlds tied.
-use Rattle.std.proofs.Common.{◌≡◌, ℕ, ◌+◌, ◌≤◌, Bool, true, false, ◌&&◌, not, List, [], ◌∷◌, length, Option, Some, None, is_some, nat_le, nat_lt, refl, sym, ap, ◌∙◌, subst, arith}
+use Rattle.std.proofs.Common.{◌≡◌, ℕ, ◌+◌, ◌≤◌, true, false, ◌&&◌, not, List, length, Option, Some, is_some, nat_le, refl, sym, ap, ◌∙◌, subst, arith}
 use Rattle.std.specs.Prelude.{option_and_then}
 use Rattle.std.proofs.lemmas.Bool.{leb-true, and_parts}
 use Rattle.delta.specs.Cells.{Cells, base_length}
@@ -7,15 +7,14 @@ use Rattle.bridge_world.specs.Counted as N
 use Rattle.bridge_world.specs.Lists.{only_if}
 use Rattle.bridge_world.specs.Plain as P
 use Rattle.bridge_world.specs.Plain.{is_closed}
-use Rattle.bridge_world.proofs.GoodSteps.{good_typed, good_opened, good_closed}
-use Rattle.bridge_world.proofs.PlainSteps.{plain-typed, plain-opened, plain-closed}
+use Rattle.bridge_world.proofs.GoodSteps.{good_typed, good_closed}
+use Rattle.bridge_world.proofs.PlainSteps.{plain-typed, plain-closed}
 use Rattle.file_uri.specs.Base.{BaseView}
 use Rattle.file_uri.specs.UriOf.{uri_of}
 use Rattle.text_position.specs.Changes.{Change}
 use Rattle.text_position.specs.Edits.{replacing}
 use Rattle.text_position.proofs.EditLemmas.{base_length-replacing}
 use Rattle.daemon_core.specs.History.{text_at}
-use Rattle.editor_client.specs.Editor as client
 use Rattle.editor_client.specs.Editor.{change_at, delta_of}
 use Rattle.frame_world.specs.Seats as seat
 use Rattle.frame_world.specs.Seats.{Seat}
@@ -29,7 +28,7 @@ use Rattle.plain_world.proofs.StepLemmas.{found_then, allowed_if}
 use Rattle.kept_world.specs.Events.{KeptPlayed}
 use Rattle.kept_world.specs.Moves.{IsTyped, IsClosed}
 use Rattle.kept_world.specs.Steps.{quietly}
-use Rattle.kept_world.specs.Tie.{IsTiedEditor, IsApart, ConnectedAs, Ties}
+use Rattle.kept_world.specs.Tie.{IsTiedEditor, IsApart, Ties}
 use Rattle.kept_world.specs.Worlds.{KeptEditor, KeptWorld, editor_of, with_seat}
 use Rattle.kept_world.proofs.Alike.{Comes, comes_to}
 use Rattle.kept_world.proofs.StillLemmas.{typed_link, connected_next, closed_apart, is_closed_alike}

@@ -1,18 +1,16 @@
 -- A move is possible in the one world just where it is in the other.
-use Rattle.std.proofs.Common.{◌≡◌, ℕ, ◌+◌, ◌==◌, Bool, true, false, ◌&&◌, not, List, [], length, map, Option, Some, None, is_some, nat_le, nat_lt, refl, sym, ap, ◌∙◌, subst}
+use Rattle.std.proofs.Common.{◌≡◌, ℕ, ◌+◌, ◌==◌, Bool, true, false, ◌&&◌, not, List, length, map, Option, Some, None, is_some, nat_le, nat_lt, refl, sym, ap, ◌∙◌, subst}
 use Rattle.std.specs.Prelude.{option_and_then}
 use Rattle.std.specs.Map.{lookup}
 use Rattle.std.proofs.lemmas.Slice.Zip.{AllZip-long}
 use Rattle.file_uri.specs.Base.{BaseView}
 use Rattle.file_uri.specs.UriOf.{uri_of}
-use Rattle.rpc_frame.specs.Stream.{StreamEnd}
 use Rattle.bridge_world.specs.Counted as N
 use Rattle.bridge_world.specs.Lists.{only_if}
 use Rattle.bridge_world.specs.Plain as P
 use Rattle.bridge_world.specs.Plain.{is_closed}
 use Rattle.daemon_core.specs.State.{is_number}
 use Rattle.editor_client.specs.Editor as client
-use Rattle.plain_world.specs.Handling.{Played}
 use Rattle.plain_world.specs.Playing as plain
 use Rattle.plain_world.specs.RawFrames as raw
 use Rattle.plain_world.specs.RawFrames.{Reader}

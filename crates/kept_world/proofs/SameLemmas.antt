@@ -16,7 +16,7 @@ use Rattle.daemon_core.specs.Outcome.{Taken, Gone, Silence, Success, Outcome, an
 use Rattle.daemon_core.specs.Outputs.{outcome_of}
 use Rattle.daemon_core.specs.Refusing.{Step, ◌>>=◌, unless_bad_uri, path_named, open_link, no_link, text_shown, good_edits}
 use Rattle.daemon_core.specs.Serving.{opening, changed, on_message, or_refusal}
-use Rattle.daemon_core.specs.State.{Links, State, is_number, link_at, links_of}
+use Rattle.daemon_core.specs.State.{Links, State, link_at, links_of}
 use Rattle.plain_world.specs.Handling.{plain_step, first_step}
 
 -- the same daemon with these connections

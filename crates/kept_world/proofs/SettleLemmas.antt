@@ -1,5 +1,5 @@
 -- A move that is made again and again, and all that is under way between an editor and its daemon.
-use Rattle.std.proofs.Common.{◌≡◌, ℕ, zero, suc, true, List, [], ◌++◌, length, Option, Some, is_some, refl, sym, ap, ◌∙◌, subst, append-nil, append_assoc}
+use Rattle.std.proofs.Common.{◌≡◌, ℕ, List, [], ◌++◌, length, Option, Some, is_some, sym, ap, ◌∙◌, subst, append-nil, append_assoc}
 use Rattle.std.specs.Prelude.{option_and_then}
 use Rattle.file_uri.specs.Base.{BaseView}
 use Rattle.file_uri.specs.UriOf.{uri_of}
@@ -10,9 +10,8 @@ use Rattle.plain_world.specs.Playing.{again, continued, count_sent, count_wire}
 use Rattle.plain_world.specs.World as P
 use Rattle.kept_world.specs.Events.{KeptPlayed}
 use Rattle.kept_world.specs.Moves.{IsUp, IsDown, then_played, Repeats, Never, Once_more, IsSettled}
-use Rattle.kept_world.specs.Steps.{quietly}
 use Rattle.kept_world.specs.Tie.{Ties}
-use Rattle.kept_world.specs.Worlds.{KeptEditor, KeptWorld, editor_of}
+use Rattle.kept_world.specs.Worlds.{KeptEditor, KeptWorld}
 use Rattle.kept_world.proofs.Alike.{Alike, Comes, comes_to}
 use Rattle.kept_world.proofs.DownLemmas.{down_alike}
 use Rattle.kept_world.proofs.StillLemmas.{up_length, down_length}

@@ -1,5 +1,5 @@
 -- What is shown in both worlds.
-use Rattle.std.proofs.Common.{◌≡◌, ℕ, ◌==◌, Bool, ◌||◌, not, List, [], ◌++◌, length, codes, decimal, Option, Some, is_some, refl, sym, ap, ◌∙◌, subst}
+use Rattle.std.proofs.Common.{◌≡◌, ℕ, ◌==◌, Bool, ◌||◌, not, List, ◌++◌, length, codes, decimal, Some, is_some, sym, ap, ◌∙◌}
 use Rattle.std.specs.Prelude.{option_and_then, if◌then◌else◌}
 use Rattle.file_uri.specs.Base.{BaseView}
 use Rattle.file_uri.specs.UriOf.{uri_of}
@@ -8,14 +8,13 @@ use Rattle.bridge_world.specs.Plain.{is_closed}
 use Rattle.daemon_core.specs.History.{History, view_at}
 use Rattle.editor_client.specs.Editor as client
 use Rattle.replay_script.specs.Texts.{quoted}
-use Rattle.plain_world.specs.Handling.{Played}
 use Rattle.plain_world.specs.Lines as lines
 use Rattle.plain_world.specs.Lines.{file_line, held_line}
 use Rattle.plain_world.specs.Playing as plain
 use Rattle.plain_world.specs.World as P
 use Rattle.plain_world.proofs.StepLemmas.{found_then}
 use Rattle.kept_world.specs.Events.{KeptPlayed}
-use Rattle.kept_world.specs.Steps.{prints, is_busy, word_of, show_line, shows, tells_file, tells_held}
+use Rattle.kept_world.specs.Steps.{prints, show_line, shows, tells_file, tells_held}
 use Rattle.kept_world.specs.Tie.{IsTiedEditor, Ties}
 use Rattle.kept_world.specs.Worlds.{KeptHost, KeptEditor, KeptWorld, running, editor_of}
 use Rattle.kept_world.proofs.Alike.{Alike, Comes, comes_to}

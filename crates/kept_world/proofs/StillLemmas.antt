@@ -1,5 +1,5 @@
 -- What a step of an editor leaves of its connection, and how much is under way.
-use Rattle.std.proofs.Common.{◌≡◌, inl, inr, ℕ, suc, Bool, true, false, List, [], ◌∷◌, length, map, Option, Some, None, refl, sym, ap, ◌∙◌, subst}
+use Rattle.std.proofs.Common.{◌≡◌, inl, inr, ℕ, suc, Bool, true, false, List, [], ◌∷◌, length, Option, Some, None, refl, sym, ap, ◌∙◌, subst}
 use Rattle.std.specs.Option.{option_map}
 use Rattle.std.proofs.lemmas.List.{length-map}
 use Rattle.delta.specs.Cells.{Cells}
@@ -7,8 +7,8 @@ use Rattle.editor_bridge.specs.Link.{Link}
 use Rattle.bridge_world.specs.Counted as N
 use Rattle.bridge_world.specs.Counted.{Frame, Held, Sent, with_one_shown}
 use Rattle.bridge_world.specs.Facts.{HasFailed}
-use Rattle.bridge_world.specs.Plain.{State, Kind, Opening, Open, Closed, OpenDone, Done, Failed, New, Old, is_closed, Mark}
-use Rattle.bridge_world.specs.Tie.{Place, place, after, reached, Stand, Aims, client_of, Good}
+use Rattle.bridge_world.specs.Plain.{State, Kind, Opening, Open, Closed, OpenDone, Done, Failed, New, Old, is_closed}
+use Rattle.bridge_world.specs.Tie.{Place, place, after, reached, Aims, client_of, Good}
 use Rattle.rpc_message.specs.declared.messages.ToEditor.{ToEditor}
 use Rattle.editor_client.specs.Editor as client
 use Rattle.editor_client.specs.declared.states.ClientState.{ClientState}
@@ -16,7 +16,7 @@ use Rattle.editor_client.specs.declared.states.ClientState.TheVariants as client
 use Rattle.frame_world.specs.Seats.{Seat}
 use Rattle.frame_world.specs.Serving.{link_held}
 use Rattle.frame_world.specs.Tie.{Ids, AreBodies, AreSaid, frame_of, state_of, IsTied}
-use Rattle.kept_world.specs.Tie.{IsConnectedAt, IsApart, ConnectedAs}
+use Rattle.kept_world.specs.Tie.{IsApart, ConnectedAs}
 use Rattle.kept_world.specs.Worlds.{KeptEditor, KeptWorld}
 
 -- The link of an editor as its daemon has it.

@@ -1,5 +1,5 @@
 -- What stands across in the plain machine, and what stays tied where something else has changed.
-use Rattle.std.proofs.Common.{◌≡◌, ◌⊎◌, inl, inr, ℕ, ◌+◌, ◌≤◌, ◌<◌, Bool, true, false, List, [], ◌∷◌, length, Option, Some, None, is_some, refl, sym, ap, ◌∙◌, subst, arith}
+use Rattle.std.proofs.Common.{◌≡◌, inl, inr, ℕ, ◌≤◌, true, Option, Some, None, refl, sym, ap, ◌∙◌, subst, arith}
 use Rattle.std.specs.Prelude.{slice_get, slice_set, option_and_then, if◌then◌else◌}
 use Rattle.file_uri.specs.Base.{BaseView}
 use Rattle.file_uri.specs.UriOf.{uri_of}
@@ -11,8 +11,8 @@ use Rattle.frame_world.specs.Tie.{IsTied}
 use Rattle.plain_world.specs.Playing as plain
 use Rattle.plain_world.specs.World as P
 use Rattle.plain_world.proofs.ListLemmas.{from_set}
-use Rattle.kept_world.specs.Tie.{IsTiedHost, HostTied, IsConnectedAt, ConnectedAs, IsTiedEditor, AreOnTheirOwn, Ties}
-use Rattle.kept_world.specs.Worlds.{KeptHost, KeptEditor, KeptWorld, next_connection, if_there, running, editor_of, with_editor, with_seat}
+use Rattle.kept_world.specs.Tie.{IsTiedHost, HostTied, ConnectedAs, IsTiedEditor, AreOnTheirOwn, Ties}
+use Rattle.kept_world.specs.Worlds.{KeptHost, KeptEditor, KeptWorld, next_connection, if_there, running, editor_of, with_seat}
 use Rattle.kept_world.proofs.ZipLemmas.{Across, across, none_across, zip_set}
 
 -- Daemons.

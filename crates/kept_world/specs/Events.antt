@@ -1,5 +1,5 @@
 -- What an event of a daemon makes of a world: whom it sends frames, what is printed of them, and whether the daemon stops.
-use Rattle.std.specs.Prelude.{◌≡◌, ℕ, ◌+◌, ◌==◌, nat_lt, Bool, true, false, List, [], ◌∷◌, map, flat_map, Option, Some, None, if◌then◌else◌}
+use Rattle.std.specs.Prelude.{◌≡◌, ℕ, ◌==◌, nat_lt, Bool, true, false, List, [], map, flat_map, Option, Some, None, if◌then◌else◌}
 use Rattle.std.specs.List.{list_any}
 use Rattle.daemon_core.specs.Outputs.{serve}
 use Rattle.daemon_core.specs.Sending.{AllCanBeSent}

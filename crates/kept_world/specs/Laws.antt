@@ -1,5 +1,5 @@
 -- What holds of whole worlds that a program keeps, as statements.
-use Rattle.std.specs.Prelude.{◌≡◌, ℕ, List, Option, Some, None, is_some}
+use Rattle.std.specs.Prelude.{◌≡◌, Some, is_some}
 use Rattle.file_uri.specs.Base.{BaseView, IsBase}
 use Rattle.replay_script.specs.declared.moves.Move.{Move}
 use Rattle.plain_world.specs.Handling.{Played}

@@ -1,5 +1,5 @@
 -- What each move makes of a world that a program keeps, and where it is possible.
-use Rattle.std.specs.Prelude.{◌≡◌, ℕ, zero, suc, Bool, true, false, ◌&&◌, not, nat_lt, List, [], ◌∷◌, ◌++◌, length, Option, Some, None, Ok, is_some, option_and_then}
+use Rattle.std.specs.Prelude.{◌≡◌, ℕ, suc, Bool, true, false, nat_lt, List, [], ◌∷◌, ◌++◌, length, Option, Some, None, Ok, is_some, option_and_then}
 use Rattle.std.specs.Map.{set_value}
 use Rattle.file_uri.specs.Base.{BaseView}
 use Rattle.file_uri.specs.PathOf.{path_of}
@@ -16,7 +16,7 @@ use Rattle.frame_world.specs.Laws.{IsReadBack, TellsOf}
 use Rattle.frame_world.specs.Lines.{note_line}
 use Rattle.frame_world.specs.Seats.{Seat, IsDelivered}
 use Rattle.plain_world.specs.Lines.{hung_line}
-use Rattle.plain_world.specs.RawFrames.{Reader, Reading, read_behind}
+use Rattle.plain_world.specs.RawFrames.{Reader, read_behind}
 use Rattle.kept_world.specs.Events.{KeptPlayed, IsEvent}
 use Rattle.kept_world.specs.Steps.{quietly, begins, joins, types, closes, opens, cuts, shows, tells_file, tells_held, kept_of, raw_begins, without_raw, raw_ends}
 use Rattle.kept_world.specs.Worlds.{KeptHost, KeptEditor, KeptWorld, running, editor_of, with_host, with_seat}

@@ -1,7 +1,7 @@
 -- What each move does to a world that a program keeps, where that is a function of the world: the next world and the lines printed,
 -- or that it is not possible.
 use Rattle.std.specs.Prelude.{ℕ, ◌+◌, ◌==◌, Bool, ◌||◌, ◌&&◌, not, nat_lt, nat_le, List, [], ◌∷◌, ◌++◌, length, filter, codes, decimal}
-use Rattle.std.specs.Prelude.{Option, Some, None, is_some, slice_set, option_and_then, if◌then◌else◌}
+use Rattle.std.specs.Prelude.{Option, Some, None, is_some, if◌then◌else◌}
 use Rattle.std.specs.BTreeMap.{insert_entry}
 use Rattle.std.specs.Map.{lookup}
 use Rattle.std.specs.Ordering.{nat_cmp}

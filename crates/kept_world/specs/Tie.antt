@@ -1,5 +1,5 @@
 -- What ties a world that a program keeps to one of the plain machine.
-use Rattle.std.specs.Prelude.{◌≡◌, ◌≢◌, ◌↔◌, ℕ, ◌≤◌, ◌<◌, nat_lt, true, false, Bool, List, [], map, filter, Option, Some, None, Ok, is_some, All, IsTrue}
+use Rattle.std.specs.Prelude.{◌≡◌, ℕ, ◌≤◌, ◌<◌, nat_lt, true, false, Bool, List, [], map, filter, Option, Some, None, Ok, All}
 use Rattle.std.specs.List.{AllZip}
 use Rattle.std.specs.List.Sorted.{IsStrictlySortedBy}
 use Rattle.std.specs.Ordering.{nat_cmp}
@@ -12,12 +12,11 @@ use Rattle.file_uri.specs.UriOf.{uri_of}
 use Rattle.rpc_frame.specs.Stream.{StreamEnd}
 use Rattle.daemon_core.specs.History.{text_at}
 use Rattle.daemon_core.specs.Laws.{IsServing}
-use Rattle.daemon_core.specs.State.{Links, State, is_number}
+use Rattle.daemon_core.specs.State.{Links, State}
 use Rattle.frame_world.specs.Serving.{IsAt}
 use Rattle.frame_world.specs.Tie.{IsTied}
 use Rattle.plain_world.specs.World as P
 use Rattle.plain_world.specs.declared.TheConstants.{FIRST_OWN}
-use Rattle.kept_world.specs.Steps.{kept_of}
 use Rattle.kept_world.specs.Worlds.{KeptHost, KeptEditor, KeptWorld, next_connection, running, editor_of}
 
 -- a connection that the script feeds

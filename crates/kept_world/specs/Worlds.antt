@@ -1,6 +1,6 @@
 -- Whole worlds as a program keeps them: each daemon has all its connections, and an editor of a script is a client with the bodies
 -- under way from it and the frames under way to it.
-use Rattle.std.specs.Prelude.{ℕ, ◌+◌, Bool, List, [], ◌∷◌, map, Option, Some, None, slice_get, slice_set, option_and_then, if◌then◌else◌, ◌==◌}
+use Rattle.std.specs.Prelude.{ℕ, ◌+◌, List, [], map, Option, Some, None, slice_get, slice_set, option_and_then, if◌then◌else◌, ◌==◌}
 use Rattle.rpc_frame.specs.Stream.{StreamEnd}
 use Rattle.daemon_core.specs.State.{State}
 use Rattle.frame_world.specs.Seats as seat
