@@ -1,27 +1,29 @@
 -- What an event of a daemon leaves of a world beside its editors: the daemon, the connections, and that the daemon stops.
-use Rattle.std.proofs.Common.{◌≡◌, ◌⊎◌, inl, inr, ℕ, zero, suc, ◌==◌, ◌≤◌, ◌<◌, Bool, true, false, List, [], ◌∷◌, map, filter, Option, Some, None, All, refl, sym, ap, ◌∙◌, subst, arith}
+use Rattle.std.proofs.Common.{◌≡◌, ℕ, zero, suc, ◌==◌, ◌<◌, Bool, true, false, List, [], ◌∷◌, map, filter, Option, Some, None, All, refl, sym, ap, ◌∙◌, subst, arith}
 use Rattle.std.specs.Prelude.{slice_get, slice_set, if◌then◌else◌}
 use Rattle.std.specs.List.{AllZip}
 use Rattle.std.specs.List.Sorted.{IsStrictlySortedBy}
 use Rattle.std.specs.Ordering.{nat_cmp}
-use Rattle.std.proofs.lemmas.Bool.{eqb-true, eqb-false, eq-eqb}
+use Rattle.std.proofs.lemmas.Bool.{eqb-false}
 use Rattle.file_uri.specs.Base.{BaseView}
 use Rattle.bridge_world.specs.Lists.{Each, one_and_others}
 use Rattle.rpc_message.specs.Messages.{message_of}
 use Rattle.daemon_core.specs.Laws.{IsServing}
 use Rattle.daemon_core.specs.Outcome.{Outcome, links_after, state_after}
 use Rattle.daemon_core.specs.Outputs.{others_messages, outcome_of}
+use Rattle.daemon_core.specs.Sending.{CanBeSent, AllCanBeSent}
 use Rattle.daemon_core.specs.State.{Links, State, is_number}
+use Rattle.daemon_core.specs.declared.events.Event.TheVariants.{EditorFrame}
 use Rattle.daemon_core.specs.declared.events.Output.{Output}
 use Rattle.plain_world.specs.Playing as Q
 use Rattle.plain_world.specs.RawFrames as plain
 use Rattle.plain_world.specs.World as P
-use Rattle.plain_world.proofs.ListLemmas.{from_map, at_set, beside_set}
+use Rattle.plain_world.proofs.ListLemmas.{from_map}
 use Rattle.frame_world.specs.Serving.{HasOnce, answer_messages}
-use Rattle.frame_world.specs.Tie.{CanBeSent}
+use Rattle.frame_world.proofs.SendableLemmas.{answers_can_be_sent, tellings_can_be_sent}
 use Rattle.kept_world.specs.Events.{received_on, told_editor}
-use Rattle.kept_world.specs.Tie.{is_fed_one, numbers_of, IsTiedHost, HostTied, IsTiedEditor, Ties}
-use Rattle.kept_world.specs.Worlds.{KeptHost, KeptEditor, KeptWorld, next_connection, running, cut_off, lost_with, without_host}
+use Rattle.kept_world.specs.Tie.{is_fed_one, IsTiedHost, IsTiedEditor, Ties}
+use Rattle.kept_world.specs.Worlds.{KeptHost, KeptEditor, KeptWorld, next_connection, cut_off, lost_with, without_host}
 use Rattle.kept_world.proofs.AfterLemmas.{numbers_after}
 use Rattle.kept_world.proofs.CutLemmas.{cut_tied}
 use Rattle.kept_world.proofs.HostLemmas.{hosts_set, files_set, running_beside}
@@ -32,6 +34,12 @@ pub record IsSendable (s : State) (n : ℕ) (body : List ℕ) : Type 0 where
   pub own : Each CanBeSent (answer_messages s n body)
   pub others : (m : ℕ) (links : Links) → is_number n m ≡ false → HasOnce m links s.connections
       → Each CanBeSent (others_messages s.base (outcome_of s n (message_of body)).effects links)
+
+pub sendable : (s : State) (n : ℕ) (body : List ℕ) → AllCanBeSent s (EditorFrame n body) → IsSendable s n body
+sendable s n body all = record {
+  own = answers_can_be_sent s n body all;
+  others = λ m links apart once. tellings_can_be_sent s n body m links once apart all;
+}
 
 -- ---- lists
 

@@ -1,5 +1,5 @@
 -- The first body under way from an editor comes to its daemon.
-use Rattle.std.proofs.Common.{◌≡◌, ℕ, ◌<◌, true, nat_lt, List, ◌∷◌, length, Option, Some, refl, sym, ap, ◌∙◌, subst, arith}
+use Rattle.std.proofs.Common.{◌≡◌, ℕ, true, nat_lt, length, Some, sym, ap, ◌∙◌, subst, arith}
 use Rattle.std.specs.Prelude.{option_and_then}
 use Rattle.std.proofs.lemmas.Bool.{lt-ltb}
 use Rattle.file_uri.specs.Base.{BaseView}
@@ -22,7 +22,7 @@ use Rattle.kept_world.specs.Moves.{IsUp}
 use Rattle.kept_world.specs.Tie.{IsConnectedAt, ConnectedAs, IsTiedEditor, Ties}
 use Rattle.kept_world.specs.Worlds.{KeptHost, KeptEditor, KeptWorld, running, with_seat}
 use Rattle.kept_world.proofs.Alike.{Comes, comes_to}
-use Rattle.kept_world.proofs.HearLemmas.{Sends}
+use Rattle.kept_world.proofs.EventLemmas.{sendable}
 use Rattle.kept_world.proofs.SameLemmas.{first_alike, refusal_alike}
 use Rattle.kept_world.proofs.StillLemmas.{up_length}
 use Rattle.kept_world.proofs.TieLemmas.{RunsAlike, runs_alike, sits_alike}
@@ -46,8 +46,8 @@ steps_so w e x h g counted seated runs more files =
     ∙ ap (λ st. Some (handled_so w e y g st (or_refusal g.state st))) (first_alike h.state g.state x.path (plain_of counted).sent (plain_of counted).link files)
     ∙ ap (λ o. Some (handled_so w e y g step o)) (refusal_alike h.state g.state step files)
 
-pub up_alike : Sends → (base : BaseView) (k : KeptWorld) (w : P.World) (e : ℕ) (p : KeptPlayed) → Ties base k w → IsUp k e p → Comes base (plain.goes_up w e) p
-up_alike sends base k w e p ties up =
+pub up_alike : (base : BaseView) (k : KeptWorld) (w : P.World) (e : ℕ) (p : KeptPlayed) → Ties base k w → IsUp k e p → Comes base (plain.goes_up w e) p
+up_alike base k w e p ties up =
     let x : KeptEditor = up.editor in
     let h : KeptHost = up.event.host in
     let runs : running k x.daemon ≡ Some h = up.event.runs in
@@ -69,7 +69,7 @@ up_alike sends base k w e p ties up =
       connection = up.connection;
       first = up.first;
       runs = runs;
-      sends = sends h.state up.number up.body up.event.sent;
+      sends = sendable h.state up.number up.body up.event.sent;
       across = q;
       seated = across.there ∙ ap (λ (y : P.Seat). Some y) is;
       self = subst (IsTiedEditor base k w x) is t;

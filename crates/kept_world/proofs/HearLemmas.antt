@@ -1,15 +1,12 @@
 -- Bodies come in turn on a connection that a script feeds, and what is left of its stream is kept, in both worlds alike.
-use Rattle.std.proofs.Common.{◌≡◌, ℕ, ◌<◌, Bool, true, false, cond, nat_lt, List, [], ◌∷◌, ◌++◌, map, filter, Option, Some, None, refl, sym, ap, ◌∙◌, subst, arith}
+use Rattle.std.proofs.Common.{◌≡◌, ℕ, Bool, true, false, cond, nat_lt, List, [], ◌∷◌, ◌++◌, Option, Some, None, refl, sym, ap, ◌∙◌, subst}
 use Rattle.std.specs.Prelude.{option_and_then}
 use Rattle.std.specs.Map.{lookup, set_value}
 use Rattle.std.proofs.lemmas.Bool.{ltb-true}
 use Rattle.file_uri.specs.Base.{BaseView}
 use Rattle.bridge_world.specs.Lists.{Each}
 use Rattle.rpc_frame.specs.Stream.{StreamEnd, Begun, Broken}
-use Rattle.daemon_core.specs.Sending.{AllCanBeSent}
-use Rattle.daemon_core.specs.State.{State, is_number}
-use Rattle.daemon_core.specs.declared.events.Event.TheVariants.{EditorFrame}
-use Rattle.frame_world.specs.Serving.{IsAt}
+use Rattle.daemon_core.specs.State.{is_number}
 use Rattle.plain_world.specs.Handling.{Played}
 use Rattle.plain_world.specs.Lines.{hung_line}
 use Rattle.plain_world.specs.RawFrames as plain
@@ -17,21 +14,17 @@ use Rattle.plain_world.specs.RawFrames.{Reader, read_behind}
 use Rattle.plain_world.specs.Playing as playing
 use Rattle.plain_world.specs.World as P
 use Rattle.plain_world.specs.declared.TheConstants.{FIRST_OWN}
-use Rattle.kept_world.specs.Events.{KeptPlayed, IsEvent, after_event}
+use Rattle.kept_world.specs.Events.{KeptPlayed}
 use Rattle.kept_world.specs.Moves.{then_played, Hears, Done, Stopped, Next, if_runs, keeps_at, keeps, IsHeardOn}
-use Rattle.kept_world.specs.Steps.{quietly, kept_of, without_raw}
+use Rattle.kept_world.specs.Steps.{quietly}
 use Rattle.kept_world.specs.Tie.{IsTiedHost, Ties}
-use Rattle.kept_world.specs.Worlds.{KeptHost, KeptWorld, next_connection, running, with_host}
+use Rattle.kept_world.specs.Worlds.{KeptHost, KeptWorld, next_connection, running}
 use Rattle.kept_world.proofs.Alike.{Alike, Comes, comes_to}
-use Rattle.kept_world.proofs.EventLemmas.{IsSendable}
+use Rattle.kept_world.proofs.EventLemmas.{sendable}
 use Rattle.kept_world.proofs.FeedLemmas.{host_tied, without_tied}
 use Rattle.kept_world.proofs.FrameLemmas.{frame_alike}
 use Rattle.kept_world.proofs.NumberLemmas.{each_found}
 use Rattle.kept_world.proofs.TieLemmas.{RunsAlike, runs_alike, stopped_alike}
-
--- what an event asks for and what the laws of frames do
-abbrev pub Sends : Type 0
-Sends = (s : State) (n : ℕ) (body : List ℕ) → AllCanBeSent s (EditorFrame n body) → IsSendable s n body
 
 -- ---- bodies in turn
 
@@ -42,19 +35,19 @@ plain_next body bodies d c w g =
     let rest = plain.raw_frames bodies d c first.world in
     record { world = rest.world; printed = first.printed ++ rest.printed }
 
-pub frames_alike : (base : BaseView) (d c : ℕ) → Sends → nat_lt c FIRST_OWN ≡ true → (bodies : List (List ℕ)) (k : KeptWorld) (p : KeptPlayed) → Hears d c bodies k p
+pub frames_alike : (base : BaseView) (d c : ℕ) → nat_lt c FIRST_OWN ≡ true → (bodies : List (List ℕ)) (k : KeptWorld) (p : KeptPlayed) → Hears d c bodies k p
     → (w : P.World) → Ties base k w → Alike base p (plain.raw_frames bodies d c w)
-frames_alike base d c sends fed _ _ _ (Done k) w ties = record { tied = ties; printed = refl }
-frames_alike base d c sends fed _ _ _ (Stopped body bodies k stopped) w ties =
+frames_alike base d c fed _ _ _ (Done k) w ties = record { tied = ties; printed = refl }
+frames_alike base d c fed _ _ _ (Stopped body bodies k stopped) w ties =
     subst (λ found. Alike base (quietly k) (plain.if_runs found (plain_next body bodies d c w) w)) (sym (stopped_alike base k w d ties stopped))
     (record { tied = ties; printed = refl })
-frames_alike base d c sends fed _ _ _ (Next body bodies k first next event more) w ties =
+frames_alike base d c fed _ _ _ (Next body bodies k first next event more) w ties =
     let q : RunsAlike base k w d event.host = runs_alike base k w d event.host ties event.runs in
     let one : Alike base first (plain.raw_frame w d q.plain c body) =
     subst (λ p. Alike base p (plain.raw_frame w d q.plain c body)) (sym event.is)
-    (frame_alike base k w d c body event.host ties event.runs fed (sends event.host.state c body event.sent) q) in
+    (frame_alike base k w d c body event.host ties event.runs fed (sendable event.host.state c body event.sent) q) in
     let rest : Alike base next (plain.raw_frames bodies d c (plain.raw_frame w d q.plain c body).world) =
-    frames_alike base d c sends fed bodies first.world next more (plain.raw_frame w d q.plain c body).world one.tied in
+    frames_alike base d c fed bodies first.world next more (plain.raw_frame w d q.plain c body).world one.tied in
     subst (λ found. Alike base (then_played first next) (plain.if_runs found (plain_next body bodies d c w) w)) (sym q.runs)
     (record { tied = rest.tied; printed = ap (λ l. l ++ next.printed) one.printed ∙ ap (λ l. (plain.raw_frame w d q.plain c body).printed ++ l) rest.printed })
 
@@ -118,14 +111,14 @@ keeps_alike base k w d c kept ties fed = by (running k d) refl where
 
 -- ---- a piece of the stream
 
-pub hears_alike : (base : BaseView) (reader : Reader) (k : KeptWorld) (w : P.World) (d c : ℕ) (piece : List ℕ) (p : KeptPlayed) → Sends → Ties base k w
+pub hears_alike : (base : BaseView) (reader : Reader) (k : KeptWorld) (w : P.World) (d c : ℕ) (piece : List ℕ) (p : KeptPlayed) → Ties base k w
     → IsHeardOn reader k d c piece p → Comes base (plain.raw_hears reader w d c piece) p
-hears_alike base reader k w d c piece p sends ties heard =
+hears_alike base reader k w d c piece p ties heard =
     let q : RunsAlike base k w d heard.host = runs_alike base k w d heard.host ties heard.runs in
     let fed : nat_lt c FIRST_OWN ≡ true = each_found (λ (n : ℕ). nat_lt n FIRST_OWN ≡ true) c heard.host.readers heard.kept heard.known q.tied.fed in
     let reading : plain.Reading = read_behind reader heard.kept piece in
     let bodies : Alike base heard.bodies (plain.raw_frames reading.bodies d c w) =
-    frames_alike base d c sends fed reading.bodies k heard.bodies heard.hears w ties in
+    frames_alike base d c fed reading.bodies k heard.bodies heard.hears w ties in
     let v : P.World = (plain.raw_frames reading.bodies d c w).world in
     let left : Alike base (keeps reading.kept d c heard.bodies.world) (plain.keeps reading.kept d c v) =
     keeps_alike base heard.bodies.world v d c reading.kept bodies.tied fed in

@@ -1,8 +1,8 @@
 -- An editor of a world is told of what comes to its daemon on another connection.
-use Rattle.std.proofs.Common.{◌≡◌, ℕ, ◌+◌, ◌<◌, ◌==◌, ◌&&◌, Bool, true, false, List, [], ◌∷◌, length, Option, Some, None, refl, sym, ap, ◌∙◌, subst, arith}
+use Rattle.std.proofs.Common.{◌≡◌, ℕ, ◌==◌, ◌&&◌, Bool, true, false, List, [], ◌∷◌, length, Option, Some, None, refl, sym, ap, ◌∙◌, subst, arith}
 use Rattle.std.specs.Prelude.{if◌then◌else◌}
 use Rattle.std.proofs.lemmas.Bool.{eqb-true, eqb-false, eq-eqb}
-use Rattle.delta.specs.Cells.{Cells, base_length, applied, changes_nothing}
+use Rattle.delta.specs.Cells.{base_length, applied, changes_nothing}
 use Rattle.delta.proofs.LawLemmas.{applied-nothing}
 use Rattle.file_uri.specs.Base.{BaseView}
 use Rattle.file_uri.specs.UriOf.{uri_of}
@@ -17,6 +17,7 @@ use Rattle.rpc_message.specs.declared.messages.MessageId.{MessageId}
 use Rattle.daemon_core.specs.History.{History, is_path, text_at, made}
 use Rattle.daemon_core.specs.Outcome.{Effect, Outcome, effects_of, state_after}
 use Rattle.daemon_core.specs.Outputs.{others_messages, outputs}
+use Rattle.daemon_core.specs.Sending.{CanBeSent}
 use Rattle.daemon_core.specs.State.{Links, State, is_number}
 use Rattle.daemon_core.proofs.FileLemmas.{text_made, text_elsewhere, path_same, is_path_back}
 use Rattle.daemon_core.proofs.StepLemmas.{IsChange, Quiet, Made}
@@ -25,11 +26,11 @@ use Rattle.plain_world.specs.World as W
 use Rattle.plain_world.proofs.WorldLemmas.{told_is, told_apart}
 use Rattle.frame_world.specs.Seats.{Seat}
 use Rattle.frame_world.specs.Serving.{HasOnce, IsAt, told_in_turn, received, IsOneChange, TellsAlike}
-use Rattle.frame_world.specs.Tie.{CanBeSent, IsTied}
+use Rattle.frame_world.specs.Tie.{IsTied}
 use Rattle.frame_world.proofs.TellLemmas.{tellings_are_alike}
 use Rattle.kept_world.specs.Events.{received_on, told_editor}
 use Rattle.kept_world.specs.Tie.{IsApart, ConnectedAs, IsTiedEditor}
-use Rattle.kept_world.specs.Worlds.{KeptHost, KeptEditor, KeptWorld, next_connection, running}
+use Rattle.kept_world.specs.Worlds.{KeptHost, KeptEditor, KeptWorld, running}
 use Rattle.kept_world.proofs.TieLemmas.{connected_on}
 
 -- ---- the editor in the plain machine and with counts

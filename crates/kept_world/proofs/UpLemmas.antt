@@ -1,6 +1,6 @@
 -- The first body under way from an editor comes to its daemon in both worlds.
-use Rattle.std.proofs.Common.{◌≡◌, ℕ, ◌+◌, ◌<◌, ◌≤◌, ◌==◌, Bool, true, false, nat_lt, List, [], ◌∷◌, ◌++◌, length, map, filter, flat_map, Option, Some, None, Ok, Result, refl, sym, ap, ◌∙◌, subst, arith}
-use Rattle.std.specs.Prelude.{slice_get, slice_set, option_and_then, if◌then◌else◌}
+use Rattle.std.proofs.Common.{◌≡◌, ℕ, ◌<◌, ◌≤◌, Bool, true, false, List, ◌∷◌, map, filter, flat_map, Some, Result, refl, sym, ap, ◌∙◌, subst, arith}
+use Rattle.std.specs.Prelude.{slice_set, if◌then◌else◌}
 use Rattle.std.specs.List.{AllZip, list_any}
 use Rattle.std.proofs.lemmas.Bool.{eq-eqb, lt-leb}
 use Rattle.file_uri.specs.Base.{BaseView}
@@ -8,7 +8,7 @@ use Rattle.file_uri.specs.PathOf.{path_of}
 use Rattle.file_uri.specs.UriOf.{uri_of}
 use Rattle.bridge_world.specs.Counted as N
 use Rattle.bridge_world.specs.Counted.{plain_of}
-use Rattle.bridge_world.specs.Lists.{only_if, one_and_others}
+use Rattle.bridge_world.specs.Lists.{one_and_others}
 use Rattle.bridge_world.specs.Plain as bridge
 use Rattle.bridge_world.specs.Tie.{Good}
 use Rattle.bridge_world.proofs.Delivery.{Both}
@@ -25,9 +25,8 @@ use Rattle.daemon_core.specs.declared.events.Event.TheVariants.{EditorFrame}
 use Rattle.daemon_core.specs.declared.events.Output.{Output}
 use Rattle.daemon_core.proofs.MapLemmas.{number_same}
 use Rattle.daemon_core.proofs.ServeLemmas.{after_sound, outcome_sound}
-use Rattle.plain_world.specs.Handling.{Played, told_seats, handled_seat, handled_so, handled, first_step, verdict_of}
+use Rattle.plain_world.specs.Handling.{told_seats, handled_seat, handled_so, verdict_of}
 use Rattle.plain_world.specs.Lines.{told_lines}
-use Rattle.plain_world.specs.Playing as plain
 use Rattle.plain_world.specs.World as P
 use Rattle.plain_world.specs.declared.TheConstants.{FIRST_OWN}
 use Rattle.plain_world.proofs.ListLemmas.{at_set, beside_set}
@@ -37,19 +36,15 @@ use Rattle.frame_world.specs.Serving.{IsAt, plain_step_of, editor_after, Handles
 use Rattle.frame_world.specs.Tie.{IsTied}
 use Rattle.frame_world.proofs.ChangeLemmas.{one_change}
 use Rattle.frame_world.proofs.HandledLemmas.{handlings_are_alike}
-use Rattle.kept_world.specs.Events.{KeptPlayed, received_on, told_editor, fed_lines, is_stop, stops_if, after_event}
-use Rattle.kept_world.specs.Moves.{IsUp}
-use Rattle.kept_world.specs.Tie.{is_fed_one, IsConnectedAt, ConnectedAs, IsTiedEditor, Ties}
+use Rattle.kept_world.specs.Events.{received_on, told_editor, is_stop, stops_if, after_event}
+use Rattle.kept_world.specs.Tie.{is_fed_one, ConnectedAs, IsTiedEditor, Ties}
 use Rattle.kept_world.specs.Worlds.{KeptHost, KeptEditor, KeptWorld, next_connection, running, editor_of, with_host, with_seat}
 use Rattle.kept_world.proofs.AfterLemmas.{fed_after, fed_told}
-use Rattle.kept_world.proofs.Alike.{Alike, Comes, comes_to}
+use Rattle.kept_world.proofs.Alike.{Alike}
 use Rattle.kept_world.proofs.EventLemmas.{IsSendable, zip_one, host_after, told_had}
-use Rattle.kept_world.proofs.HearLemmas.{Sends}
 use Rattle.kept_world.proofs.HostLemmas.{hosts_set, running_set, running_beside}
 use Rattle.kept_world.proofs.PrintedLemmas.{printed_own, stops_alike}
-use Rattle.kept_world.proofs.SameLemmas.{first_alike, refusal_alike}
-use Rattle.kept_world.proofs.StillLemmas.{up_length}
-use Rattle.kept_world.proofs.TieLemmas.{RunsAlike, runs_alike, sits_alike, own_again, had_before}
+use Rattle.kept_world.proofs.TieLemmas.{RunsAlike, own_again, had_before}
 use Rattle.kept_world.proofs.ToldLemmas.{Tells, tied_here, told_each}
 use Rattle.kept_world.proofs.TurnLemmas.{own_turn}
 
