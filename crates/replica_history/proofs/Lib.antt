@@ -1,0 +1,16 @@
+pub mod IdTests
+pub mod GroupLemmas
+pub mod ListLemmas
+pub mod WinnerLemmas
+pub mod TellLemmas
+pub mod JoinLemmas
+pub mod MakeLemmas
+pub mod NewLemmas
+pub mod TouchLemmas
+pub mod EffectLemmas
+pub mod KeptLemmas
+pub mod ReadingLemmas
+pub mod OneLemmas
+pub mod ShownLemmas
+pub mod FollowLemmas
+pub mod ReplicaLemmas
