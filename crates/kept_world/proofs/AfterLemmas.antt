@@ -23,7 +23,8 @@ pub fed_after : (f : ℕ → Links → Links) (cs : List (ℕ × Links))
     → filter is_fed_one (map (λ c. (c.0, f c.0 c.1)) cs) ≡ map (λ c. (c.0, f c.0 c.1)) (filter is_fed_one cs)
 fed_after f [] = refl
 fed_after f (c ∷ cs) = by (fed_after f cs) (nat_lt c.0 FIRST_OWN) where
-  by : filter is_fed_one (map (λ (d : ℕ × Links). (d.0, f d.0 d.1)) cs) ≡ map (λ (d : ℕ × Links). (d.0, f d.0 d.1)) (filter is_fed_one cs) → (b : Bool) → cond b ((c.0, f c.0 c.1) ∷ filter is_fed_one (map (λ (d : ℕ × Links). (d.0, f d.0 d.1)) cs)) (filter is_fed_one (map (λ (d : ℕ × Links). (d.0, f d.0 d.1)) cs))
+  by : filter is_fed_one (map (λ (d : ℕ × Links). (d.0, f d.0 d.1)) cs) ≡ map (λ (d : ℕ × Links). (d.0, f d.0 d.1)) (filter is_fed_one cs) → (b : Bool)
+      → cond b ((c.0, f c.0 c.1) ∷ filter is_fed_one (map (λ (d : ℕ × Links). (d.0, f d.0 d.1)) cs)) (filter is_fed_one (map (λ (d : ℕ × Links). (d.0, f d.0 d.1)) cs))
       ≡ map (λ (d : ℕ × Links). (d.0, f d.0 d.1)) (cond b (c ∷ filter is_fed_one cs) (filter is_fed_one cs))
   by later true = ap (λ ds. (c.0, f c.0 c.1) ∷ ds) later
   by later false = later
@@ -36,8 +37,10 @@ fed_told n o (c ∷ cs) own = by (fed_told n o cs own) (nat_lt c.0 FIRST_OWN) re
   rest : List (ℕ × Links)
   rest = filter is_fed_one cs
 
-  by : map {B = ℕ × Links} (λ (d : ℕ × Links). (d.0, links_after n o d.0 d.1)) rest ≡ map {B = ℕ × Links} (λ (d : ℕ × Links). (d.0, told_links o.effects d.1)) rest → (b : Bool) → nat_lt c.0 FIRST_OWN ≡ b
-      → map {B = ℕ × Links} (λ (d : ℕ × Links). (d.0, links_after n o d.0 d.1)) (cond b (c ∷ rest) rest) ≡ map {B = ℕ × Links} (λ (d : ℕ × Links). (d.0, told_links o.effects d.1)) (cond b (c ∷ rest) rest)
+  by : map {B = ℕ × Links} (λ (d : ℕ × Links). (d.0, links_after n o d.0 d.1)) rest ≡ map {B = ℕ × Links} (λ (d : ℕ × Links). (d.0, told_links o.effects d.1)) rest
+      → (b : Bool) → nat_lt c.0 FIRST_OWN ≡ b
+      → map {B = ℕ × Links} (λ (d : ℕ × Links). (d.0, links_after n o d.0 d.1)) (cond b (c ∷ rest) rest)
+      ≡ map {B = ℕ × Links} (λ (d : ℕ × Links). (d.0, told_links o.effects d.1)) (cond b (c ∷ rest) rest)
   by later true fed =
       ap (λ b. (c.0, if b then own_links o.own c.1 else told_links o.effects c.1) ∷ map {B = ℕ × Links} (λ (d : ℕ × Links). (d.0, links_after n o d.0 d.1)) rest) (own_apart n c.0 own fed)
       ∙ ap (λ ds. (c.0, told_links o.effects c.1) ∷ ds) later

@@ -122,8 +122,10 @@ printed_fed d s t n id o fed base connections links =
     ∙ sym (flat_map-append (told_line d) left (stop_if o.shuts_down)))
     ∙ sym (flat_map-append (told_line d) (map (send n) ms) (left ++ stop_if o.shuts_down))
     ∙ ap (λ l. told_lines d (map (send n) (reply id o.answer ++ own_messages s.base o.own l) ++ (left ++ stop_if o.shuts_down))) (sym links)
-    ∙ ap (λ b. told_lines d (map (send n) (reply id o.answer ++ own_messages b o.own (links_of t n)) ++ (flat_map (sent_to_others n b o.effects) (filter is_fed_one s.connections) ++ stop_if o.shuts_down))) (sym base)
-    ∙ ap (λ cs. told_lines d (map (send n) (reply id o.answer ++ own_messages t.base o.own (links_of t n)) ++ (flat_map (sent_to_others n t.base o.effects) cs ++ stop_if o.shuts_down))) (sym connections)
+    ∙ ap (λ b. told_lines d (map (send n) (reply id o.answer ++ own_messages b o.own (links_of t n))
+    ++ (flat_map (sent_to_others n b o.effects) (filter is_fed_one s.connections) ++ stop_if o.shuts_down))) (sym base)
+    ∙ ap (λ cs. told_lines d (map (send n) (reply id o.answer ++ own_messages t.base o.own (links_of t n))
+    ++ (flat_map (sent_to_others n t.base o.effects) cs ++ stop_if o.shuts_down))) (sym connections)
 
 -- ---- whether the daemon is to stop
 
