@@ -6,3 +6,4 @@ pub mod HandledLemmas
 pub mod StepLemmas
 pub mod RawLemmas
 pub mod LawLemmas
+pub mod Readers

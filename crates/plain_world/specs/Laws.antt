@@ -1,4 +1,4 @@
--- What holds after every list of moves.
+-- What holds of the plain machine, as statements.
 use Rattle.std.specs.Prelude.{◌≡◌, ℕ, List, Some, codes}
 use Rattle.file_uri.specs.Base.{BaseView}
 use Rattle.replay_script.specs.declared.moves.Move.{Move}
@@ -19,3 +19,7 @@ abbrev pub QuietShowsFile : Type 0
 QuietShowsFile =
     (base : BaseView) (reader : Reader) (moves : List Move) (w : World) (printed : List ℕ) (e : ℕ) (x : Seat) → Leads base reader moves w printed
     → seat_of w e ≡ Some x → word_of x ≡ codes "quiet" → ShowsFile w x
+
+-- any two readers read each stream alike
+abbrev pub ReadersAgree : Type 0
+ReadersAgree = (one other : Reader) (stream : List ℕ) → one.read stream ≡ other.read stream

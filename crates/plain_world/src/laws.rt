@@ -1,7 +1,18 @@
-//! What holds of the plain machine after every list of moves. Each function has an empty body, and its contract is the law.
-ghost use Rattle.plain_world.specs.Laws.{QuietShowsFile};
+//! What holds of the plain machine. Each function has an empty body, and its contract is the law.
+ghost use Rattle.plain_world.specs.Laws.{QuietShowsFile, ReadersAgree};
+ghost use Rattle.plain_world.specs.RawFrames.{Reader};
 
-/// An editor for which `show` tells `quiet` shows its daemon's text of its file.
-pub fn l1()
+/// After every list of moves, an editor for which `show` tells `quiet` shows its daemon's text of its file.
+pub fn quiet_editors_show_their_files()
     ensures { QuietShowsFile }
+{}
+
+/// There is a reading of every stream by the grammar of frames, so what is said of each reader is said of one.
+pub fn there_is_a_reader()
+    ensures { Reader }
+{}
+
+/// Any two readers read each stream alike, so what is said of one is said of all.
+pub fn readers_agree()
+    ensures { ReadersAgree }
 {}
