@@ -5,9 +5,9 @@ use Rattle.std.specs.Map.{lookup}
 use Rattle.std.specs.Option.{unwrap_or}
 use Rattle.daemon_core.specs.Outcome.{Outcome, links_after, own_links, told_links}
 use Rattle.daemon_core.specs.State.{Links, State, is_number, links_of}
-use Rattle.daemon_core.proofs.MapLemmas.{number_same}
 use Rattle.plain_world.specs.declared.TheConstants.{FIRST_OWN}
 use Rattle.kept_world.specs.Tie.{is_fed_one}
+use Rattle.kept_world.proofs.NumberLemmas.{other_number}
 use Rattle.kept_world.proofs.PrintedLemmas.{own_apart}
 
 -- ---- the connections
@@ -47,10 +47,8 @@ fed_told n o (c ∷ cs) own = by (fed_told n o cs own) (nat_lt c.0 FIRST_OWN) re
   by later false other = later
 
 fed_number : (n c : ℕ) → nat_lt n FIRST_OWN ≡ true → nat_lt c FIRST_OWN ≡ false → is_number n c ≡ false
-fed_number n c fed own = by (is_number n c) refl where
-  by : (b : Bool) → is_number n c ≡ b → b ≡ false
-  by false is = refl
-  by true is = let both : true ≡ false = sym fed ∙ ap (λ k. nat_lt k FIRST_OWN) (number_same n c is) ∙ own in both
+fed_number n c fed own =
+    other_number n c (λ same. let both : true ≡ false = sym fed ∙ ap (λ k. nat_lt k FIRST_OWN) same ∙ own in cc)
 
 -- what one of them has open is found among them
 found_fed : (n : ℕ) (cs : List (ℕ × Links)) → nat_lt n FIRST_OWN ≡ true → lookup (is_number n) (filter is_fed_one cs) ≡ lookup (is_number n) cs

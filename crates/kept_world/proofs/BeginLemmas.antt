@@ -27,7 +27,7 @@ use Rattle.kept_world.specs.Worlds.{KeptHost, KeptEditor, KeptWorld, next_connec
 use Rattle.kept_world.proofs.Alike.{Comes, comes_to}
 use Rattle.kept_world.proofs.FedLemmas.{own_put}
 use Rattle.kept_world.proofs.HostLemmas.{hosts_set, host_more, beside_host}
-use Rattle.kept_world.proofs.NumberLemmas.{rising_put, apart_if_above}
+use Rattle.kept_world.proofs.NumberLemmas.{rising_put, other_number}
 use Rattle.kept_world.proofs.TieLemmas.{sits_alike, running_at, Has, own_again, no_other_files, still_tied}
 use Rattle.kept_world.proofs.ZipLemmas.{zip_each, zip_push, set_itself}
 
@@ -78,7 +78,7 @@ pub beside_own : (base : BaseView) (k l : KeptWorld) (w v : P.World) (d : ℕ) (
 beside_own base k l w v d h x y runs is more same t =
     beside_host base k l w v d h (with_own h (next_connection k)) x y runs is more (no_other_files w v same)
     (λ counted m has own below at.
-    (connections_are_alike h.state m x.path counted).another_begins (next_connection k) (apart_if_above m (next_connection k) below) at) t
+    (connections_are_alike h.state m x.path counted).another_begins (next_connection k) (other_number m (next_connection k) (λ same. omega (arith, below, same))) at) t
 
 -- an editor's connection is below the next one
 pub connection_below : (base : BaseView) (k : KeptWorld) (w : P.World) (e n : ℕ) → Ties base k w → Has k e n → n < next_connection k

@@ -1,5 +1,5 @@
 -- The connection of an editor ends in both worlds.
-use Rattle.std.proofs.Common.{◌≡◌, ℕ, ◌≤◌, ◌<◌, Bool, true, false, Some, is_some, refl, sym, ap, ◌∙◌, subst, arith}
+use Rattle.std.proofs.Common.{◌≡◌, ℕ, ◌≤◌, ◌<◌, Some, is_some, refl, sym, ap, ◌∙◌, subst, arith}
 use Rattle.std.specs.Prelude.{slice_set, option_and_then}
 use Rattle.std.specs.List.{AllZip}
 use Rattle.std.proofs.lemmas.Bool.{lt-leb}
@@ -11,8 +11,6 @@ use Rattle.bridge_world.specs.Plain as plain_step
 use Rattle.bridge_world.proofs.GoodSteps.{good_lost}
 use Rattle.bridge_world.proofs.PlainSteps.{plain-lost}
 use Rattle.daemon_core.specs.History.{text_at}
-use Rattle.daemon_core.specs.State.{is_number}
-use Rattle.daemon_core.proofs.MapLemmas.{number_same}
 use Rattle.daemon_core.proofs.ServeLemmas as serves
 use Rattle.frame_world.proofs.ConnectionLemmas.{connections_are_alike}
 use Rattle.frame_world.proofs.OwnLemmas.{own_steps}
@@ -27,7 +25,7 @@ use Rattle.kept_world.specs.Worlds.{KeptHost, KeptEditor, KeptWorld, next_connec
 use Rattle.kept_world.proofs.Alike.{Comes, comes_to}
 use Rattle.kept_world.proofs.FedLemmas.{own_without}
 use Rattle.kept_world.proofs.HostLemmas.{hosts_set, beside_host}
-use Rattle.kept_world.proofs.NumberLemmas.{rising_without, all_without}
+use Rattle.kept_world.proofs.NumberLemmas.{rising_without, all_without, other_number}
 use Rattle.kept_world.proofs.TieLemmas.{sits_alike, runs_alike, RunsAlike, own_again, had_before, no_other_files}
 use Rattle.kept_world.proofs.ZipLemmas.{zip_set, set_itself}
 
@@ -66,14 +64,6 @@ cut_tied base k l w v x y same t =
       connected = record { link = refl; sent = refl; wire = refl };
     }
 
--- no other editor has the connection
-apart_numbers : (k : KeptWorld) (e f n m : ℕ) (x a : KeptEditor) → ((f ≡ e) → ⊥) → ((x.connection ≡ Some n) → (a.connection ≡ Some n) → f ≡ e)
-    → x.connection ≡ Some n → a.connection ≡ Some m → is_number n m ≡ false
-apart_numbers k e f n m x a apart own of_x of_a = by (is_number n m) refl where
-  by : (b : Bool) → is_number n m ≡ b → b ≡ false
-  by false is = refl
-  by true is = absurd (apart (own of_x (of_a ∙ ap (λ i. Some i) (sym (number_same n m is)))))
-
 cut_at : (base : BaseView) (k : KeptWorld) (w : P.World) (e n : ℕ) (x : KeptEditor) (y : P.Seat) (h : KeptHost) (r : RunsAlike base k w x.daemon h) → Ties base k w
     → editor_of k e ≡ Some x → x.connection ≡ Some n → IsTiedEditor base k w x y → running k x.daemon ≡ Some h → FIRST_OWN ≤ n
     → Ties base (with_editor (with_host k x.daemon (ended h n)) e (cut_off x)) (plain.with_seat w e (plain.cut_off y))
@@ -91,7 +81,7 @@ cut_at base k w e n x y h r ties found on t runs own =
           beside_host base k l w v x.daemon h (ended h n) a b runs refl (omega arith) (no_other_files w v refl)
           (λ counted i has other below there.
           (connections_are_alike h.state i a.path counted).another_ends n
-          (apart_numbers k e j n i x a apart (λ of_x of_a. ties.on_their_own j e n a x at found of_a of_x) on has) there))
+          (other_number n i (λ same. apart (ties.on_their_own j e n a x at found (has ∙ ap (λ m. Some m) (sym same)) on))) there))
           (cut_tied base k l w v x y refl t)
           ties.editors;
       connections = ties.connections;

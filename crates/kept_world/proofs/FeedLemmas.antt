@@ -1,5 +1,5 @@
 -- Connections that a script feeds begin and end in both worlds.
-use Rattle.std.proofs.Common.{◌≡◌, ℕ, ◌≤◌, ◌<◌, Bool, true, false, ◌&&◌, not, List, [], filter, Option, Some, is_some, nat_lt, refl, sym, ap, ◌∙◌, arith}
+use Rattle.std.proofs.Common.{◌≡◌, ℕ, ◌≤◌, ◌<◌, true, false, ◌&&◌, not, List, [], filter, Option, Some, is_some, nat_lt, refl, sym, ap, ◌∙◌, arith}
 use Rattle.std.specs.Prelude.{option_and_then}
 use Rattle.std.specs.BTreeMap.{insert_entry}
 use Rattle.std.specs.Map.{lookup}
@@ -13,7 +13,6 @@ use Rattle.bridge_world.specs.Lists.{only_if}
 use Rattle.daemon_core.specs.Outputs.{serve}
 use Rattle.daemon_core.specs.State.{is_number}
 use Rattle.daemon_core.specs.declared.events.Event.TheVariants.{EditorBegan}
-use Rattle.daemon_core.proofs.MapLemmas.{number_same}
 use Rattle.daemon_core.proofs.ServeLemmas.{began, ended}
 use Rattle.frame_world.specs.Serving.{IsAt}
 use Rattle.frame_world.proofs.ConnectionLemmas.{connections_are_alike}
@@ -30,7 +29,7 @@ use Rattle.kept_world.specs.Worlds.{KeptHost, KeptWorld, next_connection, runnin
 use Rattle.kept_world.proofs.Alike.{Comes, comes_to}
 use Rattle.kept_world.proofs.FedLemmas.{fed_put, fed_without}
 use Rattle.kept_world.proofs.HostLemmas.{hosts_set, files_set, beside_host}
-use Rattle.kept_world.proofs.NumberLemmas.{rising_put, rising_without, all_without, each_put, each_without, each_found, apart_if_below}
+use Rattle.kept_world.proofs.NumberLemmas.{rising_put, rising_without, all_without, each_put, each_without, each_found, other_number}
 use Rattle.kept_world.proofs.TieLemmas.{runs_alike, RunsAlike, own_again}
 use Rattle.kept_world.proofs.ZipLemmas.{zip_each}
 
@@ -105,7 +104,7 @@ raw_begins_alike base k w d c p ties begun =
           host_tied base k w d h (raw_begun h c) g after ties found.is r.there refl
           (begun_tied base (next_connection k) c h g fed (omega arith) r.tied)
           (λ path counted n own at.
-          (connections_are_alike h.state n path counted).another_begins c (apart_if_below n c (omega (arith, low, own))) at);
+          (connections_are_alike h.state n path counted).another_begins c (other_number n c (λ same. omega (arith, low, own, same))) at);
       printed = refl;
     })
 
@@ -129,10 +128,7 @@ ended_tied base n c h g t = record {
 
 -- a connection that is fed is none of one's own
 pub fed_apart : (c n : ℕ) → c < FIRST_OWN → FIRST_OWN ≤ n → is_number c n ≡ false
-fed_apart c n low own = by (is_number c n) refl where
-  by : (b : Bool) → is_number c n ≡ b → b ≡ false
-  by false is = refl
-  by true is = absurd (omega (arith, low, own, number_same c n is))
+fed_apart c n low own = other_number c n (λ same. omega (arith, low, own, same))
 
 pub without_tied : (base : BaseView) (k : KeptWorld) (w : P.World) (d c : ℕ) (h : KeptHost) (g : P.Host) → Ties base k w → running k d ≡ Some h
     → P.host_of w d ≡ Some g → IsTiedHost base (next_connection k) h g → c < FIRST_OWN

@@ -84,18 +84,20 @@ pub all_without : {X : Type 0} (P : ℕ → Type 0) (n : ℕ) (es : List (ℕ ×
     → All P (numbers (filter (λ e. not (is_number n e.0)) es))
 all_without P n es all = subst (All P) (sym (numbers_without n es)) (All-filter (λ k. not (is_number n k)) P (numbers es) all)
 
--- A number above all is none of them.
+-- One number is not another.
 
-pub apart_if_below : (n k : ℕ) → k < n → is_number n k ≡ false
-apart_if_below n k below = by (is_number n k) refl where
+pub other_number : (n k : ℕ) → (n ≡ k → ⊥) → is_number n k ≡ false
+other_number n k apart = by (is_number n k) refl where
   by : (b : Bool) → is_number n k ≡ b → b ≡ false
   by false is = refl
-  by true is = absurd (omega (arith, below, number_same n k is))
+  by true is = absurd (apart (number_same n k is))
 
+-- one above all is none of them
 pub none_if_below : (n : ℕ) (cs : List (ℕ × Links)) → All (λ (k : ℕ). k < n) (numbers cs) → HasNone n cs
 none_if_below n [] all = tt
 none_if_below n (c ∷ cs) all =
-    (apart_if_below n c.0 (All-head (λ (k : ℕ). k < n) c.0 (numbers cs) all), none_if_below n cs (All-tail (λ (k : ℕ). k < n) c.0 (numbers cs) all))
+    let first : c.0 < n = All-head (λ (k : ℕ). k < n) c.0 (numbers cs) all in
+    (other_number n c.0 (λ same. omega (arith, first, same)), none_if_below n cs (All-tail (λ (k : ℕ). k < n) c.0 (numbers cs) all))
 
 -- What holds of each number.
 
@@ -126,9 +128,3 @@ each_found {X} P n (e ∷ es) v found each = by (λ later. each_found P n es v l
   by : (lookup (is_number n) es ≡ Some v → P n) → (b : Bool) → is_number n e.0 ≡ b → cond b (Some e.1) (lookup (is_number n) es) ≡ Some v → P n
   by more true is found = subst P (sym (number_same n e.0 is)) each.0
   by more false is found = more found
-
-pub apart_if_above : (n k : ℕ) → n < k → is_number n k ≡ false
-apart_if_above n k above = by (is_number n k) refl where
-  by : (b : Bool) → is_number n k ≡ b → b ≡ false
-  by false is = refl
-  by true is = absurd (omega (arith, above, number_same n k is))

@@ -11,18 +11,16 @@ use Rattle.daemon_core.specs.Outcome.{Effect, Outcome}
 use Rattle.daemon_core.specs.Outputs.{others_messages, reply, own_messages, send, told_outputs, sent_to_others, stop_if, outputs}
 use Rattle.daemon_core.specs.State.{Links, State, is_number, links_of}
 use Rattle.daemon_core.specs.declared.events.Output.{Output}
-use Rattle.daemon_core.proofs.MapLemmas.{number_same}
 use Rattle.plain_world.specs.Lines.{told_line, told_lines}
 use Rattle.plain_world.specs.declared.TheConstants.{FIRST_OWN}
 use Rattle.kept_world.specs.Events.{fed_line, fed_lines, is_stop}
 use Rattle.kept_world.specs.Tie.{is_fed_one}
+use Rattle.kept_world.proofs.NumberLemmas.{other_number}
 
 -- a connection of the script's own is none that the script feeds
 pub own_apart : (n c : ℕ) → nat_lt n FIRST_OWN ≡ false → nat_lt c FIRST_OWN ≡ true → is_number n c ≡ false
-own_apart n c own fed = by (is_number n c) refl where
-  by : (b : Bool) → is_number n c ≡ b → b ≡ false
-  by false is = refl
-  by true is = let both : true ≡ false = sym fed ∙ ap (λ k. nat_lt k FIRST_OWN) (sym (number_same n c is)) ∙ own in both
+own_apart n c own fed =
+    other_number n c (λ same. let both : true ≡ false = sym fed ∙ ap (λ k. nat_lt k FIRST_OWN) (sym same) ∙ own in cc)
 
 -- ---- one connection
 

@@ -1,5 +1,5 @@
 -- The first body under way from an editor comes to its daemon in both worlds.
-use Rattle.std.proofs.Common.{◌≡◌, ℕ, ◌<◌, ◌≤◌, Bool, true, false, List, ◌∷◌, map, filter, flat_map, Some, Result, refl, sym, ap, ◌∙◌, subst, arith}
+use Rattle.std.proofs.Common.{◌≡◌, ℕ, ◌<◌, ◌≤◌, false, List, ◌∷◌, map, filter, flat_map, Some, Result, refl, sym, ap, ◌∙◌, subst, arith}
 use Rattle.std.specs.Prelude.{slice_set, if◌then◌else◌}
 use Rattle.std.specs.List.{AllZip, list_any}
 use Rattle.std.proofs.lemmas.Bool.{eq-eqb, lt-leb}
@@ -20,10 +20,9 @@ use Rattle.daemon_core.specs.Outcome.{Effect, Outcome, links_after, told_links, 
 use Rattle.daemon_core.specs.Outputs.{told_outputs, outputs, outcome_of, id_of}
 use Rattle.daemon_core.specs.Refusing.{Step}
 use Rattle.daemon_core.specs.Serving.{or_refusal}
-use Rattle.daemon_core.specs.State.{Links, State, is_number}
+use Rattle.daemon_core.specs.State.{Links, State}
 use Rattle.daemon_core.specs.declared.events.Event.TheVariants.{EditorFrame}
 use Rattle.daemon_core.specs.declared.events.Output.{Output}
-use Rattle.daemon_core.proofs.MapLemmas.{number_same}
 use Rattle.daemon_core.proofs.ServeLemmas.{after_sound, outcome_sound}
 use Rattle.plain_world.specs.Handling.{told_seats, handled_seat, handled_so, verdict_of}
 use Rattle.plain_world.specs.Lines.{told_lines}
@@ -43,6 +42,7 @@ use Rattle.kept_world.proofs.AfterLemmas.{fed_after, fed_told}
 use Rattle.kept_world.proofs.Alike.{Alike}
 use Rattle.kept_world.proofs.EventLemmas.{IsSendable, zip_one, host_after, told_had}
 use Rattle.kept_world.proofs.HostLemmas.{hosts_set, running_set, running_beside}
+use Rattle.kept_world.proofs.NumberLemmas.{other_number}
 use Rattle.kept_world.proofs.PrintedLemmas.{printed_own, stops_alike}
 use Rattle.kept_world.proofs.TieLemmas.{RunsAlike, own_again, had_before}
 use Rattle.kept_world.proofs.ToldLemmas.{Tells, tied_here, told_each}
@@ -163,11 +163,10 @@ module _ (base : BaseView) (k : KeptWorld) (w : P.World) (e n : ℕ) (body : Lis
   -- each other one, on a connection of its own
   beside : (i : ℕ) (z : KeptEditor) (y : P.Seat) → (i ≡ e → ⊥) → editor_of k i ≡ Some z → IsTiedEditor base k w z y
       → IsTiedEditor base l (v o.effects) (told_editor d sent z) (told_seats d o.effects y)
-  beside i z y apart at t = told_each base k l w (v o.effects) d n (id_of read) o h tells z y (λ m of_d connection. by m connection (is_number n m) refl) t where
-    by : (m : ℕ) → z.connection ≡ Some m → (b : Bool) → is_number n m ≡ b → b ≡ false
-    by m connection false is = refl
-    by m connection true is =
-        absurd (apart (turn.ties.on_their_own i e n z x at turn.there (connection ∙ ap (λ c. Some c) (sym (number_same n m is))) turn.connection))
+  beside i z y apart at t =
+      told_each base k l w (v o.effects) d n (id_of read) o h tells z y
+      (λ m of_d connection.
+      other_number n m (λ same. apart (turn.ties.on_their_own i e n z x at turn.there (connection ∙ ap (λ c. Some c) (sym same)) turn.connection))) t
 
   editors_tied : AllZip (IsTiedEditor base l (v o.effects)) (map (told_editor d sent) (slice_set k.editors e (record x { seat = left })))
       (one_and_others (handled_seat step (text_at plain_o.history x.path)) (told_seats d o.effects) e w.seats)
