@@ -5,3 +5,4 @@ pub mod Trails
 pub mod Opens
 pub mod Opened
 pub mod Holds
+pub mod Runs

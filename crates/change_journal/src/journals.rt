@@ -66,6 +66,9 @@ impl<D: Disk> Journal<D> {
         ensures moments { (D.meaning disk).told → (D.meaning disk).seen ≢ [] → MatchResult result
             (λ journal. LeavesOnly (D.meaning disk) (D.meaning journal.disk) (IsImage (D.meaning disk).synced (D.meaning disk).writes))
             (λ refusal. LeavesOnly (D.meaning disk) (D.meaning refusal.disk) (IsImage (D.meaning disk).synced (D.meaning disk).writes)) }
+        // What the disk tells it goes on to tell.
+        ensures told { (D.meaning disk).told → MatchResult result
+            (λ journal. (D.meaning journal.disk).told) (λ refusal. (D.meaning refusal.disk).told) }
         ensures plan { MatchResult result
             (λ journal. (D.meaning journal.disk).plan ≡ (D.meaning disk).plan)
             (λ refusal. (D.meaning refusal.disk).plan ≡ (D.meaning disk).plan) }

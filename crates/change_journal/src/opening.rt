@@ -100,6 +100,7 @@ pub(crate) fn open_disk<D: Disk>(alloc: Global, disk: &mut D) -> Result<Contents
         (λ fault. FailsSo (D.meaning disk.old) (D.meaning disk.new) (open_steps (D.meaning disk.old).seen) fault) }
     ensures moments { (D.meaning disk.old).told → (D.meaning disk.old).seen ≢ []
         → LeavesOnly (D.meaning disk.old) (D.meaning disk.new) (IsImage (D.meaning disk.old).synced (D.meaning disk.old).writes) }
+    ensures keeps { (D.meaning disk.old).told → (D.meaning disk.new).told }
     ensures plan { (D.meaning disk.new).plan ≡ (D.meaning disk.old).plan }
     ensures later { (D.meaning disk.old).faults ≤ (D.meaning disk.new).faults }
 {

@@ -1,3 +1,4 @@
-mod RecordLemmas
+pub mod RecordLemmas
 mod Rows
 mod EncodedLemmas
+mod DiskLemmas

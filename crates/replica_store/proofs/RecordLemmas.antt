@@ -1,5 +1,6 @@
 -- Records behind others, and what one staged record adds.
-use Rattle.std.proofs.Common.{◌≡◌, inl, inr, ℕ, Bool, true, false, cond, List, [], ◌∷◌, ◌++◌, Option, is_some, Result, Ok, Err, IsTrue, refl, sym, ap, ◌∙◌, subst, append_assoc}
+use Rattle.std.proofs.Common.{◌≡◌, inl, inr, ℕ, not, Bool, true, false, cond, List, [], ◌∷◌, ◌++◌, Option, is_some, Result, Ok, Err, IsTrue, refl, sym, ap, ◌∙◌, subst, append_assoc}
+use Rattle.std.specs.List.{list_any, AllByRecursion}
 use Rattle.std.proofs.lemmas.List.{append-nil}
 use Rattle.tt_base.specs.declared.ids.Actor.{Actor}
 use Rattle.byte_format.specs.Format.{whole}
@@ -11,7 +12,9 @@ use Rattle.change_codec.proofs.EncodingLaws.{change_lawful}
 use Rattle.change_graph.specs.History.{History, is_held, name_of, with_change}
 use Rattle.change_graph.specs.Answers.{IsRepeat}
 use Rattle.change_journal.specs.Held.{JournalView}
-use Rattle.journal_format.specs.Image.{actor_is_first}
+use Rattle.journal_format.specs.Encoding.{HoldsEncoding}
+use Rattle.journal_format.specs.Image.{actor_is_first, is_actor}
+use Rattle.journal_format.proofs.ImageLaws.{actor_behind}
 use Rattle.journal_format.specs.declared.records.Note.{Note}
 use Rattle.journal_format.specs.declared.records.Record.{Record}
 use Rattle.journal_format.specs.declared.records.Record.TheVariants as records
@@ -72,6 +75,29 @@ grown_from history (r ∷ rs) grown taken = grown_from (with_record history r) r
 
 -- ---- a store
 
+abbrev no_bytes : List ℕ
+no_bytes = []
+
+abbrev actor_of : List ℕ → Actor
+actor_of bytes = record { 0 = bytes }
+
+-- a journal that is some daemon's has a record
+owned_some : {X : Type 0} (owner : Actor) → ((given : Actor) → actor_from given [] ≡ owner) → X
+owned_some owner is =
+    let two : actor_of [] ≡ actor_of (0 ∷ []) = is (actor_of []) ∙ sym (is (actor_of (0 ∷ []))) in
+    let parts : no_bytes ≡ 0 ∷ no_bytes = ap (λ (a : Actor). a.0) two in absurd cc
+
+-- behind the records of a daemon one more that is no daemon's leaves the first one first
+first_more : (owner : Actor) (recorded staged : List Record) (r : Record) → ((given : Actor) → actor_from given recorded ≡ owner)
+    → IsTrue (actor_is_first (recorded ++ staged)) → not (list_any is_actor (r ∷ [])) ≡ true → IsTrue (actor_is_first (recorded ++ (staged ++ r ∷ [])))
+first_more owner [] staged r owned first other = owned_some owner owned
+first_more owner (x ∷ xs) staged r owned first other =
+    subst (λ (rs : List Record). IsTrue (actor_is_first (x ∷ rs))) (append_assoc xs staged (r ∷ [])) (actor_behind x (xs ++ staged) (r ∷ []) first ∙ other)
+
+encodings_more : (staged : List Record) (r : Record) → AllByRecursion HoldsEncoding staged → HoldsEncoding r → AllByRecursion HoldsEncoding (staged ++ r ∷ [])
+encodings_more [] r each here = (here, tt)
+encodings_more (x ∷ xs) r each here = (each.0, encodings_more xs r each.1 here)
+
 -- one record more is staged
 module _ {D : Type 0} (old : StoreView D) (is : IsStore old) (r : Record) where
   whole_is : old.journal.records ++ (old.staged ++ r ∷ []) ≡ all_records old ++ r ∷ []
@@ -104,6 +130,8 @@ store_staged old change is may =
       notes_are = notes_staged old is r;
       taken = taken_staged old is r (subst (IsTakenAs old.history) (sym (spelled_reads change may.encoded)) (inr may));
       owner = is.owner;
+      first = first_more old.actor old.journal.records old.staged r is.owner is.first refl;
+      encodings = encodings_more old.staged r is.encodings (change, record { fits = may.encoded; spelling = refl });
     }
 
 pub store_noted : {D : Type 0} (old : StoreView D) (path : List ℕ) (note : Note) → IsStore old → IsStore (with_noted old path note)
@@ -115,6 +143,8 @@ store_noted old path note is =
       notes_are = notes_staged old is r;
       taken = taken_staged old is r tt;
       owner = is.owner;
+      first = first_more old.actor old.journal.records old.staged r is.owner is.first refl;
+      encodings = encodings_more old.staged r is.encodings tt;
     }
 
 -- ---- on the disk
@@ -148,6 +178,8 @@ store_committed {D} old new is committed =
           ap (actor_from given) at
           ∙ first_stays given old.actor old.journal.records old.staged is.owner
           ∙ sym (ap (λ (s : StoreView D). s.actor) committed.same);
+      first = subst (λ (rs : List Record). IsTrue (actor_is_first rs)) whole is.first;
+      encodings = subst (AllByRecursion HoldsEncoding) (sym none) tt;
     }
 
 -- the daemon's own record gives no change and no note
@@ -169,6 +201,10 @@ begun_owner given any (records.Actor actor ∷ rs) first = refl
 begun_owner given any (records.Change encoding ∷ rs) first = let never : false ≡ true = first in cc
 begun_owner given any (records.Note path note ∷ rs) first = let never : false ≡ true = first in cc
 
+begun_first : (given : Actor) (recorded : List Record) → IsTrue (actor_is_first recorded) → IsTrue (actor_is_first (begun given recorded))
+begun_first given [] first = refl
+begun_first given (r ∷ rs) first = first
+
 -- a store that was opened is one
 pub store_opened : {D : Type 0} (recorded : List Record) (given : Actor) (store : StoreView D) → IsTrue (actor_is_first recorded)
     → AreTaken beginning recorded → IsTrue store.journal.live → IsOpened recorded given store → IsStore store
@@ -181,6 +217,8 @@ store_opened {D} recorded given store first taken live opened =
       notes_are = opened.notes_are ∙ sym (begun_notes given recorded) ∙ sym (ap (notes_from no_notes) whole);
       taken = subst (AreTaken beginning) (sym whole) (begun_taken given recorded taken);
       owner = λ any. ap (actor_from any) opened.records_are ∙ begun_owner given any recorded first ∙ sym opened.actor_is;
+      first = subst (λ (rs : List Record). IsTrue (actor_is_first rs)) (sym whole) (begun_first given recorded first);
+      encodings = subst (AllByRecursion HoldsEncoding) (sym opened.none_staged) tt;
     }
 
 -- a store that is opened on the records of another has its history and its notes

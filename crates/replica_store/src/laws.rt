@@ -1,11 +1,12 @@
 //! What holds of every store. Each function has an empty body, and its contract is the law.
-ghost use Rattle.std.specs.Prelude.{◌≡◌, ◌++◌, List, IsTrue};
+ghost use Rattle.std.specs.Prelude.{◌≡◌, ◌⊎◌, ◌++◌, List, IsTrue};
 ghost use Rattle.tt_base.specs.declared.ids.Actor.{Actor};
 ghost use Rattle.change_codec.specs.Change.{Change};
 ghost use Rattle.change_codec.specs.Encoding.{change_format};
 ghost use Rattle.change_codec.specs.WellFormed.{IsWellFormed};
 ghost use Rattle.change_graph.specs.History.{History};
-ghost use Rattle.journal_format.specs.Image.{actor_is_first};
+ghost use Rattle.change_journal.specs.Journal.{IsBeforeOrAfter};
+ghost use Rattle.journal_format.specs.Image.{actor_is_first, StandsFor};
 ghost use Rattle.journal_format.specs.declared.records.Note.{Note};
 ghost use Rattle.journal_format.specs.declared.records.Record.{Record};
 ghost use Rattle.replica_views.specs.Growth.{MayCome, IsGrown};
@@ -13,9 +14,12 @@ ghost use Rattle.replica_views.specs.Views.{beginning};
 ghost use Rattle.replica_store.specs.Records.{Notes, history_from, notes_from, AreTaken};
 ghost use Rattle.replica_store.specs.Store.{StoreView, all_records, IsStore};
 ghost use Rattle.replica_store.specs.Calls.{with_staged, with_noted, CanMake, IsMade, made_answer, IsCommitted, IsOpened};
+ghost use Rattle.replica_store.specs.Disk.{OpensOn, Shows};
 ghost use Rattle.delta.specs.Cells.{Cells, IsNormal};
 ghost use Rattle.replica_views.specs.Made.{made};
 ghost use Rattle.std.specs.Prelude.{ℕ};
+
+use outside::Disk;
 
 /// Records behind others add to the history and the notes that those give.
 pub fn records_add_to_others()
@@ -51,6 +55,17 @@ pub fn a_reopened_store_is_the_same<D>()
         → recorded ≡ all_records store → IsOpened recorded given again → again.history ≡ store.history }
     ensures notes { (store again : StoreView D) (recorded : List Record) (given : Actor) → IsStore store
         → recorded ≡ all_records store → IsOpened recorded given again → again.notes ≡ store.notes }
+{}
+
+/// A store shows its records, held and staged. Whatever a crash leaves at a moment of a commit is opened as a store that shows the
+/// records without what was staged, or with all of it, and behind the commit as one that shows all of them.
+pub fn a_commit_is_kept_whole_or_not_at_all<D: Disk>()
+    ensures now { (store : StoreView D) → IsStore store → Shows store (all_records store) }
+    ensures meanwhile { (store again : StoreView D) (old new : D) (given : Actor) → (D.meaning old).told
+        → IsBeforeOrAfter store.journal.records store.staged (D.meaning old).seen → OpensOn (D.meaning old) (D.meaning new) given again
+        → Shows again store.journal.records ⊎ Shows again (all_records store) }
+    ensures behind { (again : StoreView D) (old new : D) (given : Actor) (recorded : List Record) → (D.meaning old).told
+        → StandsFor (D.meaning old).seen recorded → OpensOn (D.meaning old) (D.meaning new) given again → Shows again recorded }
 {}
 
 /// What a store makes for a delta of the text at a path is a change of its own with that delta as its one effect, and with the
