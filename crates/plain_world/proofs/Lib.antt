@@ -7,3 +7,4 @@ pub mod StepLemmas
 pub mod RawLemmas
 pub mod LawLemmas
 pub mod Readers
+pub mod HostileLemmas

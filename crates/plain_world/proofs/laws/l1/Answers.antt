@@ -1,5 +1,5 @@
 use Rattle.plain_world.proofs.LawLemmas.{quiet_shows_file}
-use Rattle.plain_world.proofs.laws.quiet_editors_show_their_files.Goals as goal
+use Rattle.plain_world.proofs.laws.l1.Goals as goal
 
 pub returns : goal.returns
 returns c = quiet_shows_file
