@@ -1,0 +1,5 @@
+pub mod ByteLemmas
+pub mod FitsLemmas
+pub mod WrittenLemmas
+pub mod HeadLemmas
+pub mod MadeLemmas
