@@ -1,0 +1,4 @@
+mod Learns
+mod Loads
+mod Openings
+mod StoreLemmas
