@@ -1,4 +1,4 @@
-mod Rows
+pub mod Rows
 pub mod ListLemmas
 pub mod SeatLemmas
 pub mod WorldLemmas
@@ -8,3 +8,4 @@ pub mod RawLemmas
 pub mod LawLemmas
 pub mod Readers
 pub mod HostileLemmas
+mod FedRows

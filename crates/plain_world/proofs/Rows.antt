@@ -11,19 +11,19 @@ use Rattle.plain_world.specs.RawFrames.{Reader}
 use Rattle.plain_world.specs.Step.{played}
 use Rattle.plain_world.specs.World.{beginning}
 
-abbrev work : BaseView
+abbrev pub work : BaseView
 work = record { text = codes "file:///work/"; path = codes "/work/" }
 
-abbrev then_played : Played → Played → Played
+abbrev pub then_played : Played → Played → Played
 then_played first next = record { world = next.world; printed = first.printed ++ next.printed }
 
-abbrev run : Reader → List Move → Played → Option Played
+abbrev pub run : Reader → List Move → Played → Option Played
 run reader [] so_far = Some so_far
 run reader (m ∷ moves) so_far =
     option_and_then (λ next. run reader moves (then_played so_far next)) (played work reader so_far.world m)
 
 -- what these moves print, where all are possible; none feeds a connection, so whatever reads streams does
-abbrev prints : Reader → List Move → Option (List ℕ)
+abbrev pub prints : Reader → List Move → Option (List ℕ)
 prints reader moves = option_and_then (λ (p : Played). Some p.printed) (run reader moves (quietly beginning))
 
 abbrev file : List ℕ
