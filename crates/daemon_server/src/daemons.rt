@@ -49,6 +49,13 @@ impl Daemon {
         }
     }
 
+    /// The directory that its URIs are below.
+    pub fn base(&self) -> &Base
+        ensures { result.now ≡ self.now.base }
+    {
+        &self.base
+    }
+
     /// How many changes the daemon holds.
     pub fn held(&self) -> u64
         ensures { result ≡ self.now.history.held }
@@ -70,8 +77,8 @@ impl Daemon {
         self.files.view(path)
     }
 
-    /// A connection begins.
-    fn begin(&mut self, alloc: Global, n: u64) -> Result<(), AllocError>
+    /// A connection begins. After want of memory all connections are gone, and the files are as they were.
+    pub fn begin(&mut self, alloc: Global, n: u64) -> Result<(), AllocError>
         ensures ok { OnOk result (self.new ≡ (serve self.old (EditorBegan n)).state) }
         ensures err { OnErr result (self.new ≡ record self.old { connections = [] }) }
     {
@@ -81,8 +88,8 @@ impl Daemon {
         Ok(())
     }
 
-    /// A connection ends.
-    fn end(&mut self, n: u64)
+    /// A connection ends, if there is one.
+    pub fn end(&mut self, n: u64)
         ensures { self.new ≡ (serve self.old (Ended n)).state }
     {
         let _ = self.connections.take(n);

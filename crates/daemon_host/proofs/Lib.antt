@@ -1,0 +1,3 @@
+pub mod ReadingLemmas
+pub mod HostLemmas
+pub mod HeardLemmas
