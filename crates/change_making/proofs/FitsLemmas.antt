@@ -23,7 +23,7 @@ use Rattle.change_codec.specs.declared.ops.Ref.TheVariants.{Here, There}
 use Rattle.change_codec.specs.declared.ops.Parent.{Parent}
 use Rattle.change_codec.specs.declared.ops.Parent.TheVariants.{Root, After}
 use Rattle.change_codec.specs.declared.ops.Op.{Op}
-use Rattle.change_codec.specs.declared.ops.Op.TheVariants.{Make, Insert, Delete}
+use Rattle.change_codec.specs.declared.ops.Op.TheVariants.{Make, Remove, Insert, Delete}
 use Rattle.change_codec.proofs.RisingNames.{sorted_rising}
 use Rattle.change_making.proofs.ByteLemmas.{bytes_listed, text_is_bytes}
 
@@ -67,6 +67,10 @@ text_fits text bytes is lt scalars some =
     count_fits (length (encode_utf8_all text)) (omega (arith, long, some)) (subst (λ n. n < 2 ^ 64) is lt) in
     let utf8 : is_utf8 (encode_utf8_all text) ≡ true = is_utf8-from_IsUtf8 (encode_utf8_all text) (text, (scalars, refl)) in
     (((count, ((refl, text_is_bytes text scalars), utf8)), refl), chars-encodes text scalars)
+
+pub remove_fits : (object : Ref) → ref_field.Fits object → op_field.Fits (Remove object)
+unfolding op_field
+remove_fits object fits = (((lit< tt, refl), (fits, refl)), refl)
 
 pub insert_fits : (object : Ref) (parent : Parent) (text : List ℕ) → ref_field.Fits object → parent_field.Fits parent → text_field.Fits text
     → op_field.Fits (Insert object parent text)

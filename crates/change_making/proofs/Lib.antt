@@ -3,3 +3,4 @@ pub mod FitsLemmas
 pub mod WrittenLemmas
 pub mod HeadLemmas
 pub mod MadeLemmas
+pub mod TestLemmas

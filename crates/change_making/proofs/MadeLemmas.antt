@@ -16,8 +16,8 @@ use Rattle.change_graph.specs.History.{History}
 use Rattle.replica_text.specs.Effect.{text_of}
 use Rattle.replica_text.specs.Made.{made_ops, inserted_length_of, IsAbove}
 use Rattle.replica_views.specs.Growth.{IsGrown}
-use Rattle.replica_views.specs.Made.{ref_to, written_op, next_id_at, own_change, ops_for, made}
-use Rattle.replica_views.specs.Objects.{winner_at}
+use Rattle.replica_views.specs.Made.{ref_to, written_op, next_id_at, own_change, ops_for, made, removal, rising_ids, removed}
+use Rattle.replica_views.specs.Objects.{live_at, winner_at}
 use Rattle.replica_views.specs.Texts.{elements_of}
 use Rattle.replica_views.specs.Views.{view_at, text_at}
 use Rattle.replica_views.proofs.AcceptedLemmas.{deeper_less}
@@ -70,6 +70,11 @@ creating_is history actor path d elements next ops none text is =
     (same_written (Here 0) elements d next (next_id_at history actor 1)
     ∙ ap (λ (xs : List Element). map (written_op (Here 0)) (made_ops xs d (next_id_at history actor 1))) text))
     ∙ ap (λ (o : Option ElemId). own_change history actor (ops_for history actor path d o)) (sym none)
+
+pub removing_is : (history : History) (actor : Actor) (path : List ℕ) (objects : List ElemId) (ops : List Op) → ops ≡ map removal objects
+    → objects ≡ rising_ids (live_at history path) → own_change history actor ops ≡ removed history actor path
+unfolding removed
+removing_is history actor path objects ops is live = ap (own_change history actor) (is ∙ ap (map removal) live)
 
 -- ---- the text at the path, whose length is the delta's base
 

@@ -13,7 +13,7 @@ use Rattle.change_codec.specs.declared.ops.Op.{Op}
 use Rattle.change_codec.specs.declared.ops.Ref.{Ref}
 use Rattle.replica_text.specs.Ids.{same, shifted}
 use Rattle.replica_text.specs.Made.{visible_ids, insertion, deletion, begins_deleted, at_place, made_from, made_ops}
-use Rattle.replica_views.specs.Made.{written_op}
+use Rattle.replica_views.specs.Made.{written_op, removal}
 use Rattle.change_making.specs.Writing.{CanBeWritten}
 
 -- ---- each operation of a made change can be written
@@ -62,6 +62,11 @@ pub record Pushes (object : Ref) (all : List TextOp) (before done : List Op) (le
   pub whole : done ++ map (written_op object) left ≡ before ++ map (written_op object) all
   pub some : AllByRecursion CanBeWritten left
   pub fit : AllByRecursion op_field.Fits (map (written_op object) left) → AllByRecursion op_field.Fits (map (written_op object) all)
+
+-- the same for objects that are removed
+pub record Removes (all : List ElemId) (before done : List Op) (left : List ElemId) : Type 0 where
+  pub whole : done ++ map removal left ≡ before ++ map removal all
+  pub fit : AllByRecursion op_field.Fits (map removal left) → AllByRecursion op_field.Fits (map removal all)
 
 -- ---- characters that are counted
 

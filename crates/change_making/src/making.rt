@@ -8,10 +8,10 @@ ghost use Rattle.change_codec.specs.Encoding.{ref_field, op_field};
 ghost use Rattle.replica_text.specs.Made.{made_ops, IsAbove};
 ghost use Rattle.replica_views.specs.Growth.{IsGrown};
 ghost use Rattle.replica_views.specs.Made as made;
-ghost use Rattle.replica_views.specs.Objects.{winner_at};
+ghost use Rattle.replica_views.specs.Objects.{live_at, winner_at};
 ghost use Rattle.replica_views.specs.Texts.{elements_of};
 
-use crate::writing::{actor_length, new_object, push_written, ref_to};
+use crate::writing::{actor_length, new_object, push_removals, push_written, ref_to};
 use change_codec::{Change, Op, Ref};
 use change_graph::Graph;
 use delta::Delta;
@@ -120,5 +120,23 @@ pub fn creating(
     ops.push(new_object(alloc, path)?)?;
     let above = id_above(graph.count(), actor);
     push_delta(alloc, Ref::Here(0), &text, d, above, &mut ops)?;
+    own_change(alloc, graph, own, actor, ops)
+}
+
+/// The change by which an actor removes objects. Where they are the live ones of a path, in rising order, it removes the file there.
+pub fn removing(
+    alloc: Global,
+    graph: &Graph,
+    own: u64,
+    actor: Actor,
+    objects: &[ElemId],
+) -> Result<Change, AllocError>
+    requires grown { IsGrown graph.now }
+    requires own { own ≡ count_by (made.is_made_by actor) graph.now }
+    requires room { length graph.now < 2 ^ 64 - 1 }
+    ensures { IfOk result (λ change. (path : List ℕ) → objects.now ≡ made.rising_ids (live_at graph.now path) → change ≡ made.removed graph.now actor path) }
+{
+    let mut ops = Vec::new(alloc);
+    push_removals(objects, &mut ops)?;
     own_change(alloc, graph, own, actor, ops)
 }

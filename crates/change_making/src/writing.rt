@@ -6,7 +6,7 @@ ghost use Rattle.std.specs.Str.{all_scalars, is_utf8};
 ghost use Rattle.byte_format.specs.Format.{IsBytes};
 ghost use Rattle.byte_format.specs.Values.{text_field};
 ghost use Rattle.change_codec.specs.Encoding.{ref_field, parent_field, op_field};
-ghost use Rattle.change_codec.specs.declared.ops.Op.TheVariants.{Make, Delete};
+ghost use Rattle.change_codec.specs.declared.ops.Op.TheVariants.{Make, Remove, Delete};
 ghost use Rattle.change_codec.specs.declared.ops.Ref.TheVariants.{There};
 ghost use Rattle.replica_views.specs.Made as made;
 ghost use Rattle.change_making.specs.Writing.{CanBeWritten};
@@ -130,6 +130,26 @@ fn deletion(object: Ref, first: Ref, count: u64) -> Op
         first,
         count,
     }
+}
+
+/// The removal of an object.
+fn removal(object: Ref) -> Op
+    requires { ref_field.Fits object }
+    ensures is { result ≡ Remove object }
+    ensures fits { op_field.Fits result }
+{
+    Op::Remove(object)
+}
+
+/// Removals of the objects, behind the operations that are there.
+pub(crate) fn push_removals(objects: &[ElemId], ops: &mut Vec<Op>) -> Result<(), AllocError>
+    ensures ops { OnOk result (ops.new.items ≡ ops.old.items ++ map made.removal objects.now) }
+    ensures fit { OnOk result (AllByRecursion op_field.Fits (map made.removal objects.now)) }
+{
+    for object in objects {
+        ops.push(removal(ref_to(*object)))?;
+    }
+    Ok(())
 }
 
 /// An operation on the text of an object, as a change writes it.

@@ -113,7 +113,7 @@ none_has (y ∷ ys) is q = by (greatest_id ys) is where
     pick false is = cc
 
 module _ (history : History) (directory : DirectoryView) (is : IsDirectoryOf history directory) where
-  live_is : (path : List ℕ) (id : ElemId) → is_live directory path id ≡ has_id (live_at history path) id
+  pub live_is : (path : List ℕ) (id : ElemId) → is_live directory path id ≡ has_id (live_at history path) id
   live_is path id =
       ap₂ (λ (a b : Bool). a && not b) (is.makes path id) (is.removes id)
       ∙ sym (has_filter (λ x. not (has_id (removes history) x)) (makes_at history path) id)

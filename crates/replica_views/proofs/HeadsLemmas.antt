@@ -136,3 +136,12 @@ module _ (history : History) (grown : IsGrown history) where
       let few : depth_at history n ≤ greatest (map (depth_at history) (heads_of history)) =
       reached_few (behind_heads (record { history = history; depths = has.depths }) has.deep (heads_of history) are_heads n held) in
       omega (arith, few)
+
+  -- a change that knows the heads is not held itself
+  pub own_is_new : (name : Name) (change : Change) → change.deps ≡ heads_of history → change_at history name ≡ Some change → ⊥
+  own_is_new name change knows found =
+      let held : is_held history name ≡ true = ap (λ (o : Option Change). is_some o) found in
+      let deep : depth_at history name ≡ depth_above history change.deps = (are_depths history grown).each name change found in
+      let at : depth_above history change.deps ≡ depth_above history (heads_of history) = ap (depth_above history) knows in
+      let less : depth_at history name < depth_above history (heads_of history) = less_deep name held in
+      absurd (omega (arith, deep, at, less))

@@ -16,8 +16,10 @@ pub mod WinnerLemmas
 pub mod MadeLemmas
 pub mod ComesLemmas
 pub mod AcceptingLemmas
+pub mod RisingLemmas
 pub mod NextLemmas
 pub mod DirectoryLemmas
 pub mod SameLemmas
 pub mod RemovedLemmas
+pub mod EffectLemmas
 pub mod ToldLemmas

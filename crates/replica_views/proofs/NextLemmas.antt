@@ -15,7 +15,7 @@ use Rattle.replica_text.specs.Ids.{less}
 use Rattle.replica_text.specs.Made.{made_ops}
 use Rattle.replica_views.specs.Objects.{makes_at, removes, live_at, winner_at}
 use Rattle.replica_views.specs.Texts.{elements_of}
-use Rattle.replica_views.specs.Made.{own_change, ref_to, next_id_at, ops_for, made, with_id, rising_ids, removed}
+use Rattle.replica_views.specs.Made.{own_change, ref_to, next_id_at, ops_for, made, removal, rising_ids, removed}
 use Rattle.replica_views.specs.Growth.{MayCome, IsGrown}
 use Rattle.replica_views.proofs.AcceptedLemmas.{within_of, AreAccepted}
 use Rattle.replica_views.proofs.LayerLemmas.{all_more}
@@ -24,6 +24,7 @@ use Rattle.replica_views.proofs.StepLemmas.{IsIn}
 use Rattle.replica_views.proofs.WinnerLemmas.{IsMadeBy, each_in, made_in, winner_made}
 use Rattle.replica_views.proofs.ComesLemmas.{IsSeenAs, no_object_fault, StandsAt, make_stands, IsCharacterOf, elements_are}
 use Rattle.replica_views.proofs.AcceptingLemmas.{RunAll, names_made, visible_all, none_refused, written_accepted, all_held, knows_all, none_missing, object_there, object_is, run_seen}
+use Rattle.replica_views.proofs.RisingLemmas.{rising_all}
 
 -- an object stands where a held change made one
 object_stands : (h : History) (path : List ℕ) (w : ElemId) → IsMadeBy h path w → StandsAt (things (ops_at h w.name)) w.index Object
@@ -97,28 +98,14 @@ module _ (h : History) (grown : IsGrown h) (actor : Actor) where
 
   -- ---- a change that removes a file
 
-  abbrev pub remove_of : ElemId → Op
-  remove_of id = Remove (ref_to id)
-
   removes_accepted : (path : List ℕ) (ids : List ElemId) (earlier : List Op) → AllByRecursion (IsMadeBy h path) ids
-      → AreAccepted h (all_held h grown) earlier (map remove_of ids)
+      → AreAccepted h (all_held h grown) earlier (map removal ids)
   removes_accepted path [] earlier all = tt
   removes_accepted path (id ∷ ids) earlier all =
       let stands : StandsAt (things (ops_at h id.name)) id.index Object = object_stands h path id all.0 in (
         no_object_fault (within_of h (all_held h grown) earlier) (ref_to id) (object_there h grown id stands earlier) (object_is h grown id stands earlier),
-        removes_accepted path ids (earlier ++ remove_of id ∷ []) all.1,
+        removes_accepted path ids (earlier ++ removal id ∷ []) all.1,
       )
-
-  with_all : (P : ElemId → Type 0) (id : ElemId) (ids : List ElemId) → P id → AllByRecursion P ids → AllByRecursion P (with_id id ids)
-  with_all P id [] is all = (is, tt)
-  with_all P id (other ∷ ids) is all = by (less other id) (with_all P id ids is all.1) where
-    by : (b : Bool) → AllByRecursion P (with_id id ids) → AllByRecursion P (cond b (other ∷ with_id id ids) (id ∷ (other ∷ ids)))
-    by true rest = (all.0, rest)
-    by false rest = (is, all)
-
-  pub rising_all : (P : ElemId → Type 0) (ids : List ElemId) → AllByRecursion P ids → AllByRecursion P (rising_ids ids)
-  rising_all P [] all = tt
-  rising_all P (id ∷ ids) all = with_all P id (rising_ids ids) all.0 (rising_all P ids all.1)
 
   live_made : (path : List ℕ) → AllByRecursion (IsMadeBy h path) (live_at h path)
   live_made path =
@@ -126,7 +113,7 @@ module _ (h : History) (grown : IsGrown h) (actor : Actor) where
       (all_more (λ (v : ElemId). IsIn v (makes_at h path)) (IsMadeBy h path) (makes_at h path)
       (λ v is. made_in h path v h (grown_entries h grown) is) (each_in (makes_at h path)))
 
-  no_things : (ids : List ElemId) → things (map remove_of ids) ≡ []
+  no_things : (ids : List ElemId) → things (map removal ids) ≡ []
   no_things [] = refl
   no_things (id ∷ ids) = no_things ids
 
@@ -134,6 +121,6 @@ module _ (h : History) (grown : IsGrown h) (actor : Actor) where
       → MayCome h (removed h actor path)
   unfolding removed
   removed_comes path new encoded =
-      own_comes (map remove_of (rising_ids (live_at h path)))
+      own_comes (map removal (rising_ids (live_at h path)))
       (removes_accepted path (rising_ids (live_at h path)) [] (rising_all (IsMadeBy h path) (live_at h path) (live_made path))) new encoded
-      (let e : length (things (map remove_of (rising_ids (live_at h path)))) ≡ 0 = ap length (no_things (rising_ids (live_at h path))) in omega (arith, e))
+      (let e : length (things (map removal (rising_ids (live_at h path)))) ≡ 0 = ap length (no_things (rising_ids (live_at h path))) in omega (arith, e))

@@ -8,18 +8,16 @@ use Rattle.tt_base.specs.declared.ids.Actor.{Actor}
 use Rattle.tt_base.specs.declared.ids.ElemId.{ElemId}
 use Rattle.tt_base.specs.declared.text_ops.TextOp.{TextOp}
 use Rattle.change_codec.specs.Change.{Change}
-use Rattle.change_codec.specs.declared.ops.Op.TheVariants.{Remove}
 use Rattle.change_graph.specs.History.{History, name_of, with_change}
 use Rattle.replica_dir.specs.Ids.{is_id, has_id}
 use Rattle.replica_dir.proofs.IdLemmas.{id_same}
-use Rattle.replica_text.specs.Ids.{less}
 use Rattle.replica_text.specs.Ops.{after_ops}
 use Rattle.replica_text.specs.Effect.{text_of}
 use Rattle.replica_views.specs.Objects.{makes_from, makes_at, removes_of, removes, live_at, greatest_id, winner_at}
 use Rattle.replica_views.specs.Texts.{text_ops, tree_of, elements_of}
 use Rattle.replica_views.specs.Views.{view_at}
 use Rattle.replica_views.specs.Effects.{effect_at}
-use Rattle.replica_views.specs.Made.{own_change, ref_to, with_id, rising_ids, removed}
+use Rattle.replica_views.specs.Made.{own_change, removal, rising_ids, removed}
 use Rattle.replica_views.specs.Growth.{MayCome, IsGrown}
 use Rattle.replica_views.specs.Laws.{RemovesOnly}
 use Rattle.replica_views.proofs.LayerLemmas.{all_more, filter_same, filter_none}
@@ -28,27 +26,10 @@ use Rattle.replica_views.proofs.StepLemmas.{IsIn, tree_step}
 use Rattle.replica_views.proofs.ViewLemmas.{view_stays, effect_stays}
 use Rattle.replica_views.proofs.HeldLemmas.{IsHeldId, removes_in, all_makes, true_later}
 use Rattle.replica_views.proofs.WinnerLemmas.{IsMadeBy, made_in, each_in, one_path, makes_same, removed_now}
-use Rattle.replica_views.proofs.NextLemmas.{rising_all}
+use Rattle.replica_views.proofs.RisingLemmas.{rising_all, has_rising}
 use Rattle.replica_views.proofs.DirectoryLemmas.{is_itself, has_filter}
 
--- ---- ids in rising order are the same ids
-
-has_with : (id : ElemId) (ids : List ElemId) (q : ElemId) → has_id (with_id id ids) q ≡ (is_id q id || has_id ids q)
-has_with id [] q = refl
-has_with id (other ∷ ids) q = by (less other id) (has_with id ids q) where
-  swapped : (a b c : Bool) → (a || (b || c)) ≡ (b || (a || c))
-  swapped true true c = refl
-  swapped true false c = refl
-  swapped false b c = refl
-
-  by : (b : Bool) → has_id (with_id id ids) q ≡ (is_id q id || has_id ids q)
-      → has_id (cond b (other ∷ with_id id ids) (id ∷ (other ∷ ids))) q ≡ (is_id q id || (is_id q other || has_id ids q))
-  by true rest = ap (λ (b : Bool). is_id q other || b) rest ∙ swapped (is_id q other) (is_id q id) (has_id ids q)
-  by false rest = refl
-
-has_rising : (ids : List ElemId) (q : ElemId) → has_id (rising_ids ids) q ≡ has_id ids q
-has_rising [] q = refl
-has_rising (id ∷ ids) q = has_with id (rising_ids ids) q ∙ ap (λ (b : Bool). is_id q id || b) (has_rising ids q)
+-- ---- ids of a list
 
 has_in : (ids : List ElemId) (q : ElemId) → has_id ids q ≡ true → IsIn q ids
 has_in [] q has = cc
@@ -67,11 +48,11 @@ in_has (x ∷ xs) q (inr is) = either (is_id q x) (in_has xs q is) where
 
 -- ---- removals do nothing to texts, and make nothing
 
-no_text : (g : History) (actor : Actor) (n : Name) (object : ElemId) (ids : List ElemId) (index : ℕ) → text_ops g n object index (map (λ (id : ElemId). Remove (ref_to id)) ids) ≡ []
+no_text : (g : History) (actor : Actor) (n : Name) (object : ElemId) (ids : List ElemId) (index : ℕ) → text_ops g n object index (map removal ids) ≡ []
 no_text g actor n object [] index = refl
 no_text g actor n object (id ∷ ids) index = no_text g actor n object ids (index + 0)
 
-no_makes : (g : History) (n : Name) (path : List ℕ) (ids : List ElemId) (index : ℕ) → makes_from g n path index (map (λ (id : ElemId). Remove (ref_to id)) ids) ≡ []
+no_makes : (g : History) (n : Name) (path : List ℕ) (ids : List ElemId) (index : ℕ) → makes_from g n path index (map removal ids) ≡ []
 no_makes g n path [] index = refl
 no_makes g n path (id ∷ ids) index = no_makes g n path ids (index + 0)
 
@@ -80,7 +61,7 @@ module _ (history : History) (actor : Actor) (path : List ℕ) (grown : IsGrown 
   gone = rising_ids (live_at history path)
 
   abbrev change : Change
-  change = own_change history actor (map (λ (id : ElemId). Remove (ref_to id)) gone)
+  change = own_change history actor (map removal gone)
 
   module _ (may : MayCome history change) where
     abbrev later : History
@@ -90,14 +71,14 @@ module _ (history : History) (actor : Actor) (path : List ℕ) (grown : IsGrown 
     entry = (name_of change, change)
 
     removed_are : (ids : List ElemId) → AllByRecursion (IsHeldId history) ids
-        → flat_map (removes_of later (name_of change)) (map (λ (id : ElemId). Remove (ref_to id)) ids) ≡ ids
+        → flat_map (removes_of later (name_of change)) (map removal ids) ≡ ids
     removed_are [] all = refl
     removed_are (id ∷ ids) all = ap₂ (λ (x : ElemId) (xs : List ElemId). x ∷ xs) (true_later history change grown may id all.0) (removed_are ids all.1)
 
     own_removes : removes_in later entry ≡ gone
     own_removes =
         removed_are gone
-        (rising_all history grown actor (IsHeldId history) (live_at history path)
+        (rising_all (IsHeldId history) (live_at history path)
         (all_filter (IsHeldId history) (λ id. not (has_id (removes history) id)) (makes_at history path) (all_makes history path history (grown_entries history grown))))
 
     -- what is removed now: what was, and what is live at the path

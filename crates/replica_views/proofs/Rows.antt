@@ -113,5 +113,5 @@ greatest = refl
 
 both_gone : removed apart (actor 1) f
     ≡ record { actor = actor 1; seq = 2; deps = name 8 ∷ name 6 ∷ []; ops = Remove (There (name 8) 0) ∷ Remove (There (name 6) 0) ∷ [] }
-unfolding removed heads_of depth_at less
+unfolding removed heads_of depth_at less same
 both_gone = refl

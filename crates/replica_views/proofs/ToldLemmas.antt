@@ -32,7 +32,7 @@ module _ {K : Type 0} (R : K → K → Ordering) (order : IsTotalOrder R) (tied 
   first_among : (k : K) (ks : List K) → list_any (is_at (R k)) (k ∷ ks) ≡ true
   first_among k ks = ap (λ (r : Ordering). is_eq r || list_any (is_at (R k)) ks) (tied_itself order k)
 
-  all_below : (p q : K) (ks : List K) → R p q ≡ Less → AllByRecursion (λ k. R q k ≡ Less) ks → AllByRecursion (λ k. R p k ≡ Less) ks
+  pub all_below : (p q : K) (ks : List K) → R p q ≡ Less → AllByRecursion (λ k. R q k ≡ Less) ks → AllByRecursion (λ k. R p k ≡ Less) ks
   all_below p q [] lt all = tt
   all_below p q (k ∷ ks) lt all = (order.trans p q k lt all.0, all_below p q ks lt all.1)
 

@@ -131,3 +131,13 @@ module _ (history later : History) (path : List ℕ) where
             ∙ ap (λ (tree : Tree). changes_nothing (effect xs (walk tree))) (trees object is)
             ∙ ap changes_nothing (sym (joins_nothing xs (well_tree history grown object).distinct).is_effect)
             ∙ kept_nothing (count_by is_alive xs)
+
+-- ---- an absent file is read as the empty text
+
+pub text_seen : (history : History) (path : List ℕ) (text : List ℕ) → Some text ≡ view_at history path → text ≡ text_at history path
+unfolding text_at
+text_seen history path text is = ap (λ (o : Option (List ℕ)). unwrap_or o []) is
+
+pub text_unseen : (history : History) (path : List ℕ) → None ≡ view_at history path → [] ≡ text_at history path
+unfolding text_at
+text_unseen history path none = ap (λ (o : Option (List ℕ)). unwrap_or o []) none

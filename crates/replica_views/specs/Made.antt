@@ -18,7 +18,7 @@ use Rattle.change_codec.specs.declared.ops.Parent.TheVariants.{Root, After}
 use Rattle.change_codec.specs.declared.ops.Op.{Op}
 use Rattle.change_codec.specs.declared.ops.Op.TheVariants.{Make, Remove, Insert, Delete}
 use Rattle.change_graph.specs.History.{History, has_name, with_change}
-use Rattle.replica_text.specs.Ids.{less}
+use Rattle.replica_text.specs.Ids.{less, same}
 use Rattle.replica_text.specs.Made.{made_ops}
 use Rattle.replica_views.specs.Ids.{depth_above}
 use Rattle.replica_views.specs.Objects.{live_at, winner_at}
@@ -81,16 +81,21 @@ with_made history actor path d = with_change history (made history actor path d)
 
 -- ---- removing a file
 
--- an id among others in rising order
+-- an id among others in rising order, where it is not there already
 abbrev pub with_id : ElemId → List ElemId → List ElemId
 with_id id [] = id ∷ []
-with_id id (other ∷ ids) = if less other id then other ∷ with_id id ids else id ∷ (other ∷ ids)
+with_id id (other ∷ ids) =
+    if less other id then other ∷ with_id id ids else (if same other id then other ∷ ids else id ∷ (other ∷ ids))
 
--- the ids in rising order
+-- the ids, each once, in rising order
 abbrev pub rising_ids : List ElemId → List ElemId
 rising_ids [] = []
 rising_ids (id ∷ ids) = with_id id (rising_ids ids)
 
+-- an operation that removes an object
+abbrev pub removal : ElemId → Op
+removal id = Remove (ref_to id)
+
 -- the change that removes each live object of the path, in rising order of their ids
 unfoldable pub removed : History → Actor → List ℕ → Change
-removed history actor path = own_change history actor (map (λ id. Remove (ref_to id)) (rising_ids (live_at history path)))
+removed history actor path = own_change history actor (map removal (rising_ids (live_at history path)))

@@ -1,5 +1,5 @@
 //! What holds of the readings of a history. Each function has an empty body, and its contract is the law.
-ghost use Rattle.std.specs.Prelude.{◌≡◌, ℕ, ◌+◌, ◌^◌, ◌≤◌, false, List, [], length};
+ghost use Rattle.std.specs.Prelude.{◌≡◌, ◌≢◌, ℕ, ◌+◌, ◌^◌, ◌≤◌, false, List, [], length, Some};
 ghost use Rattle.delta.specs.Cells.{Cells, applied, base_length, IsNormal};
 ghost use Rattle.tt_base.specs.Elements.{AreDistinct};
 ghost use Rattle.tt_base.specs.declared.ids.Actor.{Actor};
@@ -95,6 +95,12 @@ pub fn own_changes_may_come_next()
     ensures removed { (history : History) → IsGrown history → (actor : Actor) (path : List ℕ)
         → is_held history (name_of (removed history actor path)) ≡ false → change_format.Fits (removed history actor path)
         → MayCome history (removed history actor path) }
+{}
+
+/// A change that knows all heads is not held itself, so a daemon never makes a change that it holds.
+pub fn own_changes_are_new()
+    ensures { (history : History) → IsGrown history → (name : Name) (change : Change) → change.deps ≡ heads_of history
+        → change_at history name ≢ Some change }
 {}
 
 /// The winner of a path is that of each directory that was told just the makes and the removes of the history.
