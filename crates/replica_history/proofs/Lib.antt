@@ -14,3 +14,5 @@ pub mod OneLemmas
 pub mod ShownLemmas
 pub mod FollowLemmas
 pub mod ReplicaLemmas
+pub mod CountLemmas
+pub mod MakingLemmas

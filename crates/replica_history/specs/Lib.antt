@@ -5,3 +5,4 @@ pub mod Joins
 pub mod Standings
 pub mod Shown
 pub mod Replica
+pub mod Counts

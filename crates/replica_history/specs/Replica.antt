@@ -17,6 +17,7 @@ use Rattle.replica_history.specs.declared.replicas.Added.{Added}
 use Rattle.replica_history.specs.declared.replicas.Added.TheVariants.{Repeat, Effects}
 use Rattle.replica_history.specs.declared.texts.KeptText.{KeptText}
 use Rattle.replica_history.specs.Texts.{TextsView, kept_at}
+use Rattle.replica_history.specs.Counts.{CountsView, AreCounts}
 
 -- the object was made at the path, and the text is its reading
 pub record IsTextOf (history : History) (object : ElemId) (kept : KeptText) : Type 0 where
@@ -33,6 +34,11 @@ pub record AreReadings (history : History) (directory : DirectoryView) (texts : 
   pub grown : IsGrown history
   pub of_paths : IsDirectoryOf history directory
   pub of_objects : (object : ElemId) → IsKeptOf history object (kept_at texts object)
+
+-- what stands beside the history is told of it
+pub record AreKept (history : History) (directory : DirectoryView) (texts : TextsView) (counts : CountsView) : Type 0 where
+  pub readings : AreReadings history directory texts
+  pub counts_are : AreCounts history counts
 
 -- the later history is this one with a change that comes next, of this name and with these operations
 pub record IsNextOf (history : History) (change : Change) (later : History) (name : Name) (ops : List Op) (directory : DirectoryView) (texts : TextsView) : Type 0 where

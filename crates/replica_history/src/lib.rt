@@ -1,6 +1,7 @@
 //! A history with what it shows: its graph, the directory of its paths, and the text of each object, all kept as changes come.
 #![tactic(auto)]
 
+mod counts;
 mod deeds;
 mod effects;
 mod following;
@@ -14,3 +15,6 @@ mod texts;
 
 pub use effects::Effect;
 pub use replicas::{Added, Replica, indices_fit};
+
+#[cfg(test)]
+mod tests;

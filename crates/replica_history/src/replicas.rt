@@ -1,5 +1,6 @@
 ghost use Rattle.std.specs.Prelude.{◌≡◌, ◌≢◌, ◌↔◌, ◌<◌, ◌^◌, true, false, not, length, IsTrue, IfOk, IfErr, OnOk};
 ghost use Rattle.std.specs.Option.{option_map};
+ghost use Rattle.delta.specs.Cells.{base_length};
 ghost use Rattle.change_codec.specs.Change.{Change};
 ghost use Rattle.change_graph.specs.Adding.{IsRefused};
 ghost use Rattle.change_graph.specs.History.{History};
@@ -7,10 +8,12 @@ ghost use Rattle.change_graph.specs.Refusals.{things};
 ghost use Rattle.change_graph.specs.declared.faults.GraphFault.TheVariants.{Memory};
 ghost use Rattle.replica_views.specs.Effects.{AreEffects};
 ghost use Rattle.replica_views.specs.Growth.{IsGrown};
+ghost use Rattle.replica_views.specs.Made.{made, removed};
 ghost use Rattle.replica_views.specs.Objects.{ArePaths};
-ghost use Rattle.replica_views.specs.Views.{beginning, held, view_at};
+ghost use Rattle.replica_views.specs.Views.{beginning, held, text_at, view_at};
 ghost use Rattle.replica_history.specs.Replica.{AreReadings, IsHeldNextOf, IsHeldNext, IsAdded};
 
+use crate::counts::Counts;
 use crate::deeds::indices_of;
 use crate::effects::Effect;
 use crate::following::follow;
@@ -19,10 +22,12 @@ use crate::standings::winner;
 use crate::texts::Texts;
 use change_codec::{Change, name_of, write_change};
 use change_graph::{AddNote, Graph, GraphFault};
+use change_making::{changing, creating, removing};
+use delta::Delta;
 use replica_dir::Directory;
 use std::alloc::{AllocError, Global};
 use std::marker::Model;
-use tt_base::{List, Name, SharedPath, Text};
+use tt_base::{Actor, List, Name, SharedPath, Text};
 
 /// What came of adding a change.
 #[derive(Debug, Drop)]
@@ -41,18 +46,19 @@ pub struct Replica {
     graph: Graph,
     directory: Directory,
     texts: Texts,
+    counts: Counts,
     live: bool,
 }
 
 impl Model for Replica {
     ghost use Rattle.std.specs.Prelude.{IsTrue};
-    ghost use Rattle.replica_history.specs.Replica.{ReplicaView, AreReadings};
+    ghost use Rattle.replica_history.specs.Replica.{ReplicaView, AreKept};
 
     ghost Value = { ReplicaView };
 
     ghost view = { λ r. record { history = r.graph; live = r.live } };
 
-    ghost invariant = { λ r. IsTrue r.live → AreReadings r.graph r.directory r.texts };
+    ghost invariant = { λ r. IsTrue r.live → AreKept r.graph r.directory r.texts r.counts };
 }
 
 /// Whether what the change makes has fewer than 2^64 indices.
@@ -110,6 +116,7 @@ impl Replica {
             graph: Graph::new(alloc),
             directory: Directory::new(alloc)?,
             texts: Texts::empty(alloc),
+            counts: Counts::none(alloc),
             live: true,
         })
     }
@@ -169,6 +176,49 @@ impl Replica {
         self.directory.paths(alloc)
     }
 
+    /// The change that a daemon makes for a delta of the text at a path. A file that is absent is read as the empty text.
+    pub fn change_for(
+        &self,
+        alloc: Global,
+        actor: Actor,
+        path: &SharedPath,
+        d: &Delta,
+    ) -> Result<Change, AllocError>
+        requires live { IsTrue self.now.live }
+        requires base { base_length d.now ≡ length (text_at self.now.history path.now) }
+        ensures { IfOk result (λ change. change ≡ made self.now.history actor path.now d.now) }
+    {
+        if self.graph.count() == usize::MAX {
+            return Err(AllocError);
+        }
+        let own = self.counts.of(&actor);
+        let Some(object) = winner(&self.directory, path) else {
+            return creating(alloc, &self.graph, own, actor, path, d);
+        };
+        let Some(text) = self.texts.object(&object) else {
+            unreachable!();
+        };
+        changing(alloc, &self.graph, own, actor, object, text, d)
+    }
+
+    /// The change by which a daemon removes the file at a path: each object that is live there.
+    pub fn removal_of(
+        &self,
+        alloc: Global,
+        actor: Actor,
+        path: &SharedPath,
+    ) -> Result<Change, AllocError>
+        requires { IsTrue self.now.live }
+        ensures { IfOk result (λ change. change ≡ removed self.now.history actor path.now) }
+    {
+        if self.graph.count() == usize::MAX {
+            return Err(AllocError);
+        }
+        let own = self.counts.of(&actor);
+        let objects = self.directory.live(alloc, path)?;
+        removing(alloc, &self.graph, own, actor, objects.as_slice())
+    }
+
     /// Adds a change, and answers what it changes in the texts at the paths. Of one that is refused, or held before, nothing stays.
     /// After want of memory the replica is spent.
     pub fn add(&mut self, alloc: Global, change: Change) -> Result<Added, GraphFault>
@@ -182,7 +232,7 @@ impl Replica {
         ensures spent { IfErr result (λ fault. fault ≡ Memory → self.new.live ≡ false) }
     {
         self.live = false;
-        let _encodes = change.actor();
+        let actor = change.actor();
         let encoding = write_change(alloc, &change)?;
         let name = name_of(encoding.as_slice());
         match self.graph.add(alloc, change) {
@@ -191,6 +241,7 @@ impl Replica {
                 Ok(Added::Repeat)
             }
             Ok(AddNote::Added) => {
+                self.counts.add(actor)?;
                 let effects = follow_held(
                     alloc,
                     &self.graph,

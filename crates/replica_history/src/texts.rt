@@ -55,6 +55,16 @@ impl Texts {
         }
     }
 
+    /// The text of an object.
+    pub(crate) fn object(&self, object: &ElemId) -> Option<&ReplicaText<ListElements>>
+        ensures { option_copied result ≡ option_map (λ kept. kept.text) (kept_at self.now object.now) }
+    {
+        match self.by_object.get(object) {
+            Some(kept) => Some(&kept.text),
+            None => None,
+        }
+    }
+
     /// The length of the text of an object, and 0 where there is none.
     pub(crate) fn object_length(&self, object: &ElemId) -> usize
         ensures { result ≡ length (text_of (elements_in (kept_at self.now object.now))) }

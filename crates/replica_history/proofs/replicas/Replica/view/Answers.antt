@@ -6,7 +6,7 @@ use Rattle.replica_history.proofs.replicas.Replica.view.Goals as goal
 pub returns-in_ok-text-in-Some : goal.returns-in_ok-text-in-Some
 returns-in_ok-text-in-Some c =
     let readings : AreReadings c.self.inside.graph c.self.inside.directory c.self.inside.texts =
-    c.self.invariant (subst (λ (v : ReplicaView). IsTrue v.live) (sym c.self.view_is) c.requires) in
+    (c.self.invariant (subst (λ (v : ReplicaView). IsTrue v.live) (sym c.self.view_is) c.requires)).readings in
     rw (← c.self.view_is)
     (ap (λ (t : List ℕ). Some t) c.in_ok-text-in-Some.ensures
     ∙ view_some c.self.inside.graph c.self.inside.directory c.self.inside.texts readings c.args.path.now c.in-Some.object c.in-Some.ensures)
@@ -14,5 +14,5 @@ returns-in_ok-text-in-Some c =
 pub returns-in-None : goal.returns-in-None
 returns-in-None c =
     let readings : AreReadings c.self.inside.graph c.self.inside.directory c.self.inside.texts =
-    c.self.invariant (subst (λ (v : ReplicaView). IsTrue v.live) (sym c.self.view_is) c.requires) in
+    (c.self.invariant (subst (λ (v : ReplicaView). IsTrue v.live) (sym c.self.view_is) c.requires)).readings in
     rw (← c.self.view_is) (view_none c.self.inside.graph c.self.inside.directory c.self.inside.texts readings c.args.path.now c.in-None.ensures)
