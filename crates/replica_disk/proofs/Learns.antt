@@ -18,13 +18,13 @@ abbrev pub with_parts : {D : Type 0} → StoreView D → History → List Record
 with_parts store history staged live = record store { history = history; staged = staged; live = live }
 
 module _ {D : Type 0} (old : StoreView D) (live : IsTrue old.live) (change : Change) (history : History) (staged : List Record) where
-  unchanged : (b : Bool) → b ≡ true → HoldsTheSame old.history old.staged history staged → with_parts old history staged b ≡ old
+  pub unchanged : (b : Bool) → b ≡ true → HoldsTheSame old.history old.staged history staged → with_parts old history staged b ≡ old
   unchanged b on same =
       ap (λ (h : History). with_parts old h staged b) same.history_is
       ∙ ap (λ (s : List Record). with_parts old old.history s b) same.staged_is
       ∙ ap (λ (l : Bool). with_parts old old.history old.staged l) (on ∙ sym live)
 
-  added : (b : Bool) → b ≡ true → history ≡ (with_staged old change).history → staged ≡ (with_staged old change).staged → with_parts old history staged b ≡ with_staged old change
+  pub added : (b : Bool) → b ≡ true → history ≡ (with_staged old change).history → staged ≡ (with_staged old change).staged → with_parts old history staged b ≡ with_staged old change
   added b on history_is staged_is =
       ap (λ (h : History). with_parts old h staged b) history_is
       ∙ ap (λ (s : List Record). with_parts old (with_staged old change).history s b) staged_is

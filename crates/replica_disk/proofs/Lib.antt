@@ -2,3 +2,4 @@ mod Learns
 mod Loads
 mod Openings
 mod StoreLemmas
+mod Makes

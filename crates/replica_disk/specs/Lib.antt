@@ -1,3 +1,4 @@
 pub mod Learning
 pub mod Loading
 pub mod Opening
+pub mod Making

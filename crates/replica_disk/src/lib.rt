@@ -6,10 +6,13 @@
 mod commits;
 mod learning;
 mod loading;
+mod making;
 mod notes;
 mod opening;
 mod stores;
 
 pub use change_journal::{AppendFault, JournalFault, Known, NotOpened, Note};
 pub use learning::Learnt;
+pub use making::Made;
+pub use replica_store::StoreFault;
 pub use stores::Store;

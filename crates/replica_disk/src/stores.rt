@@ -4,23 +4,27 @@ ghost use Rattle.outside.specs.Faults.{Rose};
 ghost use Rattle.outside.specs.Moments.{LeavesNow, LeavesOnly};
 ghost use Rattle.journal_format.specs.Image.{StandsFor};
 ghost use Rattle.change_journal.specs.Journal.{IsBeforeOrAfter, AppendsSo};
-ghost use Rattle.replica_store.specs.Calls.{IsNoted, IsNotAdded, IsCommitted};
+ghost use Rattle.replica_store.specs.Calls.{IsNoted, IsNotAdded, CanMake, CanRemove, IsMade, IsRemoved, IsShort, IsNotMade, IsNotRemoved, IsCommitted};
 ghost use Rattle.replica_store.specs.Disk.{commit_steps, OpensOn, IsNotOpened, FailsToOpenSo, LeftByOpening};
 ghost use Rattle.replica_store.specs.Records.{note_at};
 ghost use Rattle.replica_store.specs.Store.{IsStore, all_records};
+ghost use Rattle.replica_views.specs.Laws.{only_effect};
 ghost use Rattle.replica_views.specs.Objects.{ArePaths};
 ghost use Rattle.replica_views.specs.Views.{view_at};
 ghost use Rattle.replica_disk.specs.Learning.{IsLearnt};
 
 use crate::commits::append_staged;
 use crate::learning::{Learnt, goes_on, hold};
+use crate::making::{Made, hold_made, hold_removed, is_of_use};
 use crate::notes::{is_kept, keep_note, note_kept};
 use crate::opening::{Begun, begin, owner_of, read_back};
 use change_codec::Change;
 use change_graph::{Graph, GraphFault};
 use change_journal::{AppendFault, Journal, JournalFault, NotOpened, Note, Record};
+use delta::Delta;
 use outside::Disk;
 use replica_history::Replica;
+use replica_store::StoreFault;
 use std::alloc::{AllocError, Global};
 use std::collections::BTreeMap;
 use std::marker::Model;
@@ -185,6 +189,49 @@ impl<D: Disk> Store<D> {
         self.live = false;
         let answer = hold(alloc, &mut self.replica, &mut self.staged, change);
         self.live = goes_on(&answer);
+        answer
+    }
+
+    /// Makes the change for a delta of the text at a path, holds it and stages its record. A file that is absent is read as the empty
+    /// text, and is made. The delta is the one effect, and there is none where it changes nothing.
+    ///
+    /// `TextTooLong`: the text would have more characters than it has and than a text may have. `Clash`: another change is held under
+    /// the name of the new one. After both nothing has changed.
+    pub fn make(&mut self, alloc: Global, path: &SharedPath, d: &Delta) -> Result<Made, StoreFault>
+        requires live { IsTrue self.old.live }
+        requires base { CanMake self.old path.now d.now }
+        ensures made { IfOk result (IsMade self.old path.now d.now self.new) }
+        // The delta is its one effect.
+        ensures effects { IfOk result (λ making. making.effects ≡ only_effect path.now d.now) }
+        ensures short { OnOk result (IsShort self.old path.now d.now) }
+        ensures fault { IfErr result (IsNotMade self.old path.now d.now self.new) }
+    {
+        d.normal_form();
+        self.live = false;
+        let answer = hold_made(
+            alloc,
+            &mut self.replica,
+            &mut self.staged,
+            self.actor,
+            path,
+            d,
+        );
+        self.live = is_of_use(&answer);
+        answer
+    }
+
+    /// Makes the change that removes the file at a path, holds it and stages its record.
+    ///
+    /// `Clash`: another change is held under the name of the new one, and nothing has changed. It is never too long.
+    pub fn remove(&mut self, alloc: Global, path: &SharedPath) -> Result<Made, StoreFault>
+        requires live { IsTrue self.old.live }
+        requires file { CanRemove self.old path.now }
+        ensures removed { IfOk result (IsRemoved self.old path.now self.new) }
+        ensures fault { IfErr result (IsNotRemoved self.old path.now self.new) }
+    {
+        self.live = false;
+        let answer = hold_removed(alloc, &mut self.replica, &mut self.staged, self.actor, path);
+        self.live = is_of_use(&answer);
         answer
     }
 

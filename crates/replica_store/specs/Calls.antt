@@ -16,6 +16,8 @@ use Rattle.journal_format.specs.declared.records.Note.{Note}
 use Rattle.journal_format.specs.declared.records.Record.{Record}
 use Rattle.journal_format.specs.declared.records.Record.TheVariants as records
 use Rattle.replica_store.specs.declared.TheConstants.{LONGEST_TEXT}
+use Rattle.replica_store.specs.declared.faults.StoreFault.{StoreFault}
+use Rattle.replica_store.specs.declared.faults.StoreFault.TheVariants as faults
 use Rattle.replica_store.specs.Records.{no_notes, with_note, note_at, history_from, notes_from, actor_from, begun}
 use Rattle.replica_store.specs.Store.{StoreView}
 use Rattle.replica_views.specs.Effects.{PathEffect, AreEffects}
@@ -93,6 +95,22 @@ pub record IsTooLong (history : History) (path : List ℕ) (d : Cells) (count : 
 pub record IsMakingClash (history : History) (actor : Actor) (path : List ℕ) (d : Cells) (held given : List ℕ) : Type 0 where
   pub short : (count : ℕ) → IsTooLong history path d count → ⊥
   pub clash : IsClash history (made history actor path d) held given
+
+-- no length of the text is too long
+abbrev pub IsShort : {D : Type 0} → StoreView D → List ℕ → Cells → Type 0
+IsShort store path d = (count : ℕ) → IsTooLong store.history path d count → ⊥
+
+-- why the change for a delta was not made: nothing changed then; without memory the store is of no more use than its disk
+abbrev pub IsNotMade : {D : Type 0} → StoreView D → List ℕ → Cells → StoreView D → StoreFault → Type 0
+IsNotMade old path d new (faults.TextTooLong count) = IsTooLong old.history path d count × (new ≡ old)
+IsNotMade old path d new (faults.Clash held given) = IsMakingClash old.history old.actor path d held given × (new ≡ old)
+IsNotMade old path d new faults.Memory = new.live ≡ false
+
+-- why a file was not removed: only where another change is held under the name, or without memory
+abbrev pub IsNotRemoved : {D : Type 0} → StoreView D → List ℕ → StoreView D → StoreFault → Type 0
+IsNotRemoved old path new (faults.TextTooLong count) = ⊥
+IsNotRemoved old path new (faults.Clash held given) = IsClash old.history (removed old.history old.actor path) held given × (new ≡ old)
+IsNotRemoved old path new faults.Memory = new.live ≡ false
 
 -- ---- notes
 
