@@ -1,0 +1,10 @@
+pub mod OrderLemmas
+pub mod OwnMoveLemmas
+pub mod SendingLemmas
+pub mod ReceiverLemmas
+pub mod EventLemmas
+pub mod DeliveryLemmas
+pub mod SettleLemmas
+pub mod FedLemmas
+pub mod MakeLemmas
+pub mod PlayLemmas
