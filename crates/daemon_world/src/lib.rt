@@ -16,3 +16,6 @@ mod typing;
 mod worlds;
 
 pub use worlds::{PlayEnd, World};
+
+#[cfg(test)]
+mod tests;
