@@ -1,9 +1,10 @@
 mod Asked
 mod Fronts
 mod LineCuts
+mod LineEnds
 mod Pieced
 mod Pieces
-mod QuietEditors
+mod RunMoves
 mod Runs
 mod ScriptRows
 mod Statuses

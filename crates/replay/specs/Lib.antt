@@ -1,4 +1,4 @@
-pub mod Machine
+pub mod Faults
 pub mod Script
 pub mod Ending
 pub mod Table

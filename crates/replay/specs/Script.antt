@@ -1,11 +1,17 @@
--- A script as a whole: its bytes, its lines, and the run of the machine over them.
-use Rattle.std.specs.Prelude.{ℕ, ◌+◌, ◌==◌, Bool, true, false, not, List, [], ◌∷◌, ◌++◌, fold, Option, Some, None, if◌then◌else◌}
-use Rattle.replay.specs.declared.playing.TheConstants.{MOST_BYTES}
+-- A script as a whole: its bytes, its lines, and the run of the plain machine over them.
+use Rattle.std.specs.Prelude.{ℕ, ◌+◌, ◌==◌, Bool, not, List, [], ◌∷◌, ◌++◌, fold, Option, Some, None, Result, Ok, Err, if◌then◌else◌}
 use Rattle.std.specs.Str.{is_utf8}
-use Rattle.replay_script.specs.Arguments.{◌>>=◌}
+use Rattle.plain_world.specs.Base.{script_base}
+use Rattle.plain_world.specs.Handling.{Played}
+use Rattle.plain_world.specs.Playing.{quietly}
+use Rattle.plain_world.specs.RawFrames.{Reader}
+use Rattle.plain_world.specs.Step.{played}
+use Rattle.plain_world.specs.World.{World, beginning}
 use Rattle.replay_script.specs.Lines.{line_asks}
 use Rattle.replay_script.specs.declared.moves.Move.{Move}
-use Rattle.replay.specs.Machine.{WorldView, Played, beginning, quietly, step}
+use Rattle.replay.specs.declared.faults.ReplayFault.{ReplayFault}
+use Rattle.replay.specs.declared.faults.ReplayFault.TheVariants.{NotAMove, NotPossible}
+use Rattle.replay.specs.declared.playing.TheConstants.{MOST_BYTES}
 
 -- the lines that end with LF, each without it, and the bytes behind the last LF
 pub record Lines : Type 0 where
@@ -27,48 +33,59 @@ lines_of (b ∷ bytes) =
     let l = lines_of bytes in
     if b == 10 then record { whole = [] ∷ l.whole; rest = l.rest } else put_before b l.whole l.rest
 
--- how far the machine has come: the world, what was printed, how many lines were played, and
--- whether the line behind them cannot be played
-pub record Run : Type 0 where
-  pub world : WorldView
-  pub printed : List ℕ
-  pub line : ℕ
-  pub stuck : Bool
-
--- the machine before the first line
-abbrev pub not_started : Run
-not_started = record { world = beginning; printed = []; line = 0; stuck = false }
-
--- a line that is outside the grammar or asks for a move that is not possible stops the machine
-abbrev pub moved_on : Run → Option Played → Run
-moved_on run None = record run { stuck = true }
-moved_on run (Some played) =
-    record { world = played.world; printed = run.printed ++ played.printed; line = run.line + 1; stuck = false }
-
 -- what a line asks for, by its bytes: bytes that are not UTF-8 are outside the grammar
 abbrev pub bytes_ask : List ℕ → Option (Option Move)
 bytes_ask line = if is_utf8 line then line_asks line else None
 
+abbrev pub or_not_possible : Option Played → Result Played ReplayFault
+or_not_possible None = Err NotPossible
+or_not_possible (Some played) = Ok played
+
 -- a line that asks for nothing prints nothing, and leaves the world as it is
-abbrev pub played_by : WorldView → Option Move → Option Played
-played_by world None = Some (quietly world)
-played_by world (Some moved) = step world moved
+abbrev pub answer_played : Reader → World → Option Move → Result Played ReplayFault
+answer_played reader w None = Ok (quietly w)
+answer_played reader w (Some moved) = or_not_possible (played script_base reader w moved)
 
--- what the line does in this world; none where it is outside the grammar or asks for a move that is not possible
-abbrev pub line_played : WorldView → List ℕ → Option Played
-line_played world line = bytes_ask line >>= played_by world
+abbrev pub asked_played : Reader → World → Option (Option Move) → Result Played ReplayFault
+asked_played reader w None = Err NotAMove
+asked_played reader w (Some answer) = answer_played reader w answer
 
-abbrev pub goes_on : Bool → Run → List ℕ → Run
-goes_on true run line = run
-goes_on false run line = moved_on run (line_played run.world line)
+-- what the line does in this world, or why it cannot be played: it is outside the grammar, or asks for a move that is not possible
+abbrev pub line_played : Reader → World → List ℕ → Result Played ReplayFault
+line_played reader w line = asked_played reader w (bytes_ask line)
+
+-- how far the machine has come: the world, what was printed, how many lines were played, and why the line behind them cannot be
+-- played, where the machine has stopped there
+pub record Run : Type 0 where
+  pub world : World
+  pub printed : List ℕ
+  pub line : ℕ
+  pub stop : Option ReplayFault
+
+-- the machine before the first line
+abbrev pub not_started : Run
+not_started = record { world = beginning; printed = []; line = 0; stop = None }
+
+-- a line that cannot be played stops the machine
+abbrev pub moved_on : Run → Result Played ReplayFault → Run
+moved_on run (Err cause) = record run { stop = Some cause }
+moved_on run (Ok next) = record { world = next.world; printed = run.printed ++ next.printed; line = run.line + 1; stop = None }
+
+abbrev pub goes_on : Reader → Option ReplayFault → Run → List ℕ → Run
+goes_on reader (Some cause) run line = run
+goes_on reader None run line = moved_on run (line_played reader run.world line)
 
 -- the machine at the next line
-abbrev pub next : Run → List ℕ → Run
-next run line = goes_on run.stuck run line
+abbrev pub next : Reader → Run → List ℕ → Run
+next reader run line = goes_on reader run.stop run line
+
+-- the run over some lines
+abbrev pub run_on : Reader → Run → List (List ℕ) → Run
+run_on reader run lines = fold (next reader) run lines
 
 -- the run over the whole lines of these bytes
-abbrev pub run_over : List ℕ → Run
-run_over bytes = fold next not_started (lines_of bytes).whole
+abbrev pub run_over : Reader → List ℕ → Run
+run_over reader bytes = run_on reader not_started (lines_of bytes).whole
 
 -- how many bytes of a script are taken at most
 abbrev pub most_bytes : ℕ

@@ -1,10 +1,8 @@
-//! Laws of the plain machine, over every script. Each is a function without effect whose contract
-//! is the law.
+//! Laws of scripts, for every script. Each is a function without effect whose contract is the law.
 
-ghost use Rattle.replay.specs.Laws.{QuietEditorHasItsDaemonsText};
+ghost use Rattle.replay.specs.Laws.{QuietEditorShowsItsFile};
 
-/// After any lines that can be played, an editor with nothing under way has a daemon, which has its
-/// file with the text that the editor shows.
-pub fn quiet_editor_has_its_daemons_text()
-    ensures { QuietEditorHasItsDaemonsText }
+/// As far as a script can be played, an editor that is told to be quiet shows its daemon's text of its file.
+pub fn quiet_editor_shows_its_file()
+    ensures { QuietEditorShowsItsFile }
 {}

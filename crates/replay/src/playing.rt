@@ -1,9 +1,10 @@
-ghost use Rattle.std.specs.Prelude.{◌≡◌, ◌≢◌, ◌+◌, ◌^◌, ◌<◌, ◌≤◌, [], length};
+ghost use Rattle.std.specs.Prelude.{◌≡◌, ◌+◌, ◌^◌, ◌<◌, ◌≤◌, [], length};
 ghost use Rattle.outside.specs.Takes.{Takes};
-ghost use Rattle.replay.specs.Machine.{beginning};
-ghost use Rattle.replay.specs.Ending.{IsWithin, end_of, ending_of, EndsSource};
+ghost use Rattle.daemon_world.specs.Worlds.{new_world};
+ghost use Rattle.replay.specs.Ending.{IsWithin, EndsLines, EndsSource};
 
-use crate::player::{Player, Playing, play_piece};
+use crate::faults::ReplayFault;
+use crate::player::{Player, play_piece};
 use outside::{Sink, Source, Took};
 use std::alloc::Global;
 
@@ -12,30 +13,6 @@ const MOST_BYTES: u64 = 1_099_511_627_776;
 
 /// How many bytes of a script are read at once.
 const PIECE_BYTES: usize = 65_536;
-
-/// Why the playing of a script ended.
-#[derive(Clone, Copy, Debug, PartialEq, Eq)]
-pub enum Ending {
-    /// The source was read to its end, and every line was played.
-    Finished,
-    /// A line is outside the grammar, asks for a move that is not possible, or has no LF.
-    Refused,
-    /// The source failed.
-    SourceFailed,
-    /// The sink failed.
-    SinkFailed,
-    /// Memory ran out.
-    Memory,
-    /// The most bytes were taken, and the source had not ended.
-    TooLong,
-}
-
-/// The end of a script's playing, and the number of the last line begun.
-#[derive(Clone, Copy, Debug, PartialEq, Eq)]
-pub struct Ended {
-    pub ending: Ending,
-    pub line: u64,
-}
 
 /// Takes the next bytes, at most as many as `room`.
 fn read_piece<S: Source>(source: &mut S, buf: &mut [u8], room: usize) -> Took
@@ -47,36 +24,16 @@ fn read_piece<S: Source>(source: &mut S, buf: &mut [u8], room: usize) -> Took
     source.read(&mut buf[..room])
 }
 
-/// How a script ends whose source has ended: the bytes behind its last LF are a line without LF.
-fn ended_at(player: &Player) -> Ended
-    requires { player.now.line + 1 < 2 ^ 64 }
-    ensures { result ≡ end_of player.now }
+/// Ends a script whose source has ended: the bytes behind its last LF are a line without LF.
+fn end_lines(player: &mut Player) -> Result<(), ReplayFault>
+    requires { player.old.line + 1 < 2 ^ 64 }
+    ensures { EndsLines player.old player.new result }
 {
     if player.pending.is_empty() {
-        Ended {
-            ending: Ending::Finished,
-            line: player.line,
-        }
-    } else {
-        Ended {
-            ending: Ending::Refused,
-            line: player.line + 1,
-        }
+        return Ok(());
     }
-}
-
-/// How a script ends whose piece was not played whole.
-fn stopped_at(playing: Playing, line: u64) -> Ended
-    requires { playing ≢ Playing.Whole }
-    ensures { result ≡ record { ending = ending_of playing; line = line } }
-{
-    let ending = match playing {
-        Playing::Whole => unreachable!(),
-        Playing::Refused => Ending::Refused,
-        Playing::SinkFailed => Ending::SinkFailed,
-        Playing::Memory => Ending::Memory,
-    };
-    Ended { ending, line }
+    player.line += 1;
+    Err(ReplayFault::NoLineEnd)
 }
 
 /// Plays the script of the source, a piece at a time, from a player that has played nothing.
@@ -86,12 +43,12 @@ fn play_pieces<S: Source, K: Sink>(
     buf: &mut [u8],
     source: &mut S,
     out: &mut K,
-) -> Ended
+) -> Result<(), ReplayFault>
     requires room { length buf.old ≡ PIECE_BYTES }
-    requires world { player.old.world ≡ beginning }
+    requires world { player.old.world ≡ new_world }
     requires pending { player.old.pending.items ≡ [] }
     requires line { player.old.line ≡ 0 }
-    ensures { EndsSource (S.meaning source.old) (S.meaning source.new) (K.meaning out.old) (K.meaning out.new) result }
+    ensures { EndsSource (S.meaning source.old) (S.meaning source.new) (K.meaning out.old) (K.meaning out.new) result player.new.line }
 {
     let mut taken = 0;
     while taken < MOST_BYTES {
@@ -99,43 +56,31 @@ fn play_pieces<S: Source, K: Sink>(
         match read_piece(source, buf, room) {
             Took::Bytes(count) => {
                 taken += count as u64;
-                match play_piece(alloc, player, &buf[..count], out) {
-                    Playing::Whole => {}
-                    playing => return stopped_at(playing, player.line),
-                }
+                play_piece(alloc, player, &buf[..count], out)?;
             }
-            Took::Ended => return ended_at(player),
-            Took::Failed => {
-                return Ended {
-                    ending: Ending::SourceFailed,
-                    line: player.line,
-                };
-            }
+            Took::Ended => return end_lines(player),
+            Took::Failed => return Err(ReplayFault::SourceFailed),
         }
     }
-    Ended {
-        ending: Ending::TooLong,
-        line: player.line,
-    }
+    Err(ReplayFault::TooLong)
 }
 
-/// Plays the script of the source, and writes what it prints to the sink.
+/// Plays the script of the source, writes what it prints to the sink, and leaves in `line` the number of the last line
+/// begun.
 ///
 /// Each line is played as soon as it is whole, and its output written before the next read.
-pub fn play_source<S: Source, K: Sink>(alloc: Global, source: &mut S, out: &mut K) -> Ended
-    ensures { EndsSource (S.meaning source.old) (S.meaning source.new) (K.meaning out.old) (K.meaning out.new) result }
+pub fn play_source<S: Source, K: Sink>(
+    alloc: Global,
+    source: &mut S,
+    out: &mut K,
+    line: &mut u64,
+) -> Result<(), ReplayFault>
+    requires { line.old ≡ 0 }
+    ensures { EndsSource (S.meaning source.old) (S.meaning source.new) (K.meaning out.old) (K.meaning out.new) result line.new }
 {
-    let Ok(mut player) = Player::new(alloc) else {
-        return Ended {
-            ending: Ending::Memory,
-            line: 0,
-        };
-    };
-    match vec![in alloc; 0u8; PIECE_BYTES] {
-        Ok(mut buf) => play_pieces(alloc, &mut player, buf.as_mut_slice(), source, out),
-        Err(_) => Ended {
-            ending: Ending::Memory,
-            line: 0,
-        },
-    }
+    let mut player = Player::new(alloc)?;
+    let mut buf = vec![in alloc; 0u8; PIECE_BYTES]?;
+    let played = play_pieces(alloc, &mut player, buf.as_mut_slice(), source, out);
+    *line = player.line;
+    played
 }

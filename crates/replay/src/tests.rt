@@ -2,7 +2,6 @@ ghost use Rattle.outside_mem.specs.MemSource.{sure_source};
 ghost use Rattle.outside_mem.specs.MemSink.{sure_sink};
 
 use super::*;
-use crate::world::PlayEnd;
 use outside::{Gave, Sink, Source, Took};
 use outside_mem::{MemSink, MemSource, SureSink, SureSource};
 use std::alloc::{AllocError, Global};
@@ -10,8 +9,12 @@ use std::process::Abort;
 use std::test::Fail;
 use tt_base::{Blob, List};
 
-const MISSION: &str =
-    "daemon 0\neditor 0 0 f \"abc\"\nsettle 0\ntype 0 1 1 \"X\"\nsettle 0\nshow 0\n";
+mod scripts;
+
+const FIRST: &str =
+    "daemon 0\neditor 0 0 f \"abc\"\nsettle 0\ntype 0 1 1 \"X\"\nsettle 0\nshow 0\nfile 0 f\n";
+
+const FIRST_OUTPUT: &str = "show 0 quiet \"aXc\"\nfile 0 f \"aXc\"\n";
 
 fn blob(alloc: Global, bytes: &[u8]) -> Result<Blob, AllocError> {
     Ok(Blob::from_vec(Vec::from_slice(alloc, bytes)?))
@@ -64,72 +67,158 @@ fn replayed(alloc: Global, script: &[u8]) -> Result<(ReplayEnd, Vec<u8>), AllocE
     Ok((end, Vec::from_slice(alloc, sink.written())?))
 }
 
-/// Plays the script, and compares what was written and how the replay ended.
-fn assert_ends(
+/// A script, what it is to print, and what is to be said of its last line, where that is refused.
+#[derive(Drop)]
+struct Expected {
+    script: String,
+    printed: String,
+    refused: String,
+}
+
+fn push_whole(lines: &mut String, line: &str) -> Result<(), AllocError> {
+    lines.push_str(line)?;
+    lines.push('\n')
+}
+
+fn push_hex(alloc: Global, line: &mut String, bytes: &[u8]) -> Result<(), AllocError> {
+    for byte in bytes {
+        line.push_str(format!(in alloc; "{byte:02x}")?.as_str())?;
+    }
+    Ok(())
+}
+
+/// A line with these words and the frame of a body.
+fn push_frame(
+    alloc: Global,
+    lines: &mut String,
+    words: &str,
+    body: &str,
+) -> Result<(), AllocError> {
+    let length = body.len();
+    let frame = format!(in alloc; "Content-Length: {length}\r\n\r\n{body}")?;
+    lines.push_str(words)?;
+    push_hex(alloc, lines, frame.as_bytes())?;
+    lines.push('\n')
+}
+
+/// What a line of the scripts adds.
+fn push_line(alloc: Global, expected: &mut Expected, line: &str) -> Result<(), AllocError> {
+    if let Some(body) = line.strip_prefix(">> ") {
+        push_frame(alloc, &mut expected.script, "hear 0 7 ", body)
+    } else if let Some(body) = line.strip_prefix("<< ") {
+        push_frame(alloc, &mut expected.printed, "told 0 7 ", body)
+    } else if let Some(line) = line.strip_prefix("> ") {
+        push_whole(&mut expected.script, line)
+    } else if let Some(line) = line.strip_prefix("< ") {
+        push_whole(&mut expected.printed, line)
+    } else if let Some(text) = line.strip_prefix("! ") {
+        expected.refused.push_str(text)
+    } else {
+        Ok(())
+    }
+}
+
+/// What is said of the end of a replay.
+fn end_text(alloc: Global, end: ReplayEnd) -> Result<String, AllocError> {
+    match end.fault {
+        Some(fault) => format!(in alloc; "{fault}"),
+        None => Ok(String::new(alloc)),
+    }
+}
+
+/// Plays a script to its last line, and compares what was written and what ended the replay.
+fn assert_plays(
     rt: &(impl Abort + AllocGlobal),
     script: &[u8],
-    output: &str,
-    status: u8,
-    line: u64,
+    printed: &str,
+    refused: &str,
 ) -> Result<(), Fail> {
-    let (end, written) = replayed(rt.alloc(), script)?;
-    assert_eq!(rt; end.status, status);
-    assert_eq!(rt; end.line, line);
-    assert_eq!(rt; written.as_slice(), output.as_bytes());
+    let alloc = rt.alloc();
+    let (end, written) = replayed(alloc, script)?;
+    assert_eq!(rt; written.as_slice(), printed.as_bytes());
+    assert_eq!(rt; end_text(alloc, end)?.as_str(), refused);
+    let lines = script.iter().filter(|byte| **byte == b'\n').count() as u64;
+    assert_eq!(rt; end.line, lines);
     Ok(())
 }
 
 #[test]
-fn scripts_print_what_editors_show(rt: HostRuntime) -> Result<(), Fail> {
-    assert_ends(&rt, b"", "", 0, 0)?;
-    assert_ends(&rt, MISSION.as_bytes(), "show 0 quiet \"aXc\"\n", 0, 6)?;
-    let typed = b"daemon 0\neditor 0 0 f \"abc\"\nsettle 0\ntype 0 1 1 \"X\"\nshow 0\n";
-    assert_ends(&rt, typed, "show 0 busy \"aXc\"\n", 0, 5)?;
-    let opened = b"daemon 0\neditor 0 0 a/b.txt \"\xc3\xa4\"\nshow 0\n";
-    assert_ends(&rt, opened, "show 0 busy \"ä\"\n", 0, 3)
+fn scripts_print_what_they_should(rt: HostRuntime) -> Result<(), Fail> {
+    let alloc = rt.alloc();
+    for lines in scripts::SCRIPTS.split("\n\n") {
+        let mut expected = Expected {
+            script: String::new(alloc),
+            printed: String::new(alloc),
+            refused: String::new(alloc),
+        };
+        for line in lines.split("\n") {
+            push_line(alloc, &mut expected, line)?;
+        }
+        let script = expected.script.as_bytes();
+        let printed = expected.printed.as_str();
+        assert_plays(&rt, script, printed, expected.refused.as_str())?;
+    }
+    Ok(())
 }
 
 #[test]
-fn texts_are_shown_as_scripts_have_them(rt: HostRuntime) -> Result<(), Fail> {
-    let tab = b"daemon 0\neditor 0 0 f \"a\\tb\"\nshow 0\n";
-    assert_ends(&rt, tab, "show 0 busy \"a\\tb\"\n", 0, 3)?;
-    let times = b"daemon 0\neditor 0 0 \"a b\" \"\\u{e4}\"*3\nsettle 0\nshow 0\n";
-    assert_ends(&rt, times, "show 0 quiet \"äää\"\n", 0, 4)
+fn lines_that_are_no_text_or_have_no_lf_are_refused(rt: HostRuntime) -> Result<(), Fail> {
+    let alloc = rt.alloc();
+    assert_plays(&rt, b"", "", "")?;
+    assert_plays(&rt, b"\n# a comment\ndaemon 0\n\n", "", "")?;
+    let no_move = "the line is no move of the script language";
+    assert_plays(&rt, b"daemon 0\n\xff\n", "", no_move)?;
+    let (end, written) = replayed(alloc, b"daemon 0\nheld 0\nheld 0")?;
+    assert_eq!(rt; end, ReplayEnd::new(Some(ReplayFault::NoLineEnd), 3));
+    assert_eq!(rt; written.as_slice(), b"held 0 0\n".as_slice());
+    Ok(())
 }
 
 #[test]
-fn lines_that_ask_for_nothing_are_played(rt: HostRuntime) -> Result<(), Fail> {
-    assert_ends(&rt, b"\n# a comment\ndaemon 0\n\n", "", 0, 4)?;
-    assert_ends(&rt, b" # no comment\n", "", 2, 1)?;
-    assert_ends(&rt, b"daemon 0\n# cut off", "", 2, 2)
+fn there_are_64_daemons_and_256_editors_at_most(rt: HostRuntime) -> Result<(), Fail> {
+    let alloc = rt.alloc();
+    let mut daemons = String::new(alloc);
+    for daemon in 0..65 {
+        daemons.push_str(format!(in alloc; "daemon {daemon}\n")?.as_str())?;
+    }
+    let mut editors = String::from_str(alloc, "daemon 0\n")?;
+    for editor in 0..257 {
+        editors.push_str(format!(in alloc; "editor {editor} 0 f \"\"\n")?.as_str())?;
+    }
+    let refused = "the move is not possible here";
+    assert_plays(&rt, daemons.as_bytes(), "", refused)?;
+    assert_plays(&rt, editors.as_bytes(), "", refused)
 }
 
 #[test]
-fn lines_outside_the_grammar_are_refused(rt: HostRuntime) -> Result<(), Fail> {
-    assert_ends(&rt, b"daemon 0\nfrobnicate 0\n", "", 2, 2)?;
-    assert_ends(&rt, b"daemon 0", "", 2, 1)?;
-    assert_ends(&rt, b"daemon 0\n\xff\n", "", 2, 2)?;
-    assert_ends(&rt, b"daemon 00\n", "", 2, 1)?;
-    assert_ends(&rt, b"daemon 0\neditor 0 0 .git/x \"\"\n", "", 2, 2)
-}
-
-#[test]
-fn moves_that_are_not_possible_are_refused(rt: HostRuntime) -> Result<(), Fail> {
-    assert_ends(&rt, b"show 0\n", "", 2, 1)?;
-    assert_ends(&rt, b"type 0 0 0 \"\"\n", "", 2, 1)?;
-    assert_ends(&rt, b"daemon 0\ndaemon 1\n", "", 2, 2)?;
-    assert_ends(&rt, b"daemon 0\nheld 0\n", "", 2, 2)?;
-    assert_ends(&rt, b"link 0 1\n", "", 2, 1)
+fn a_frame_may_be_cut_after_each_byte(rt: HostRuntime) -> Result<(), Fail> {
+    let alloc = rt.alloc();
+    let frame = b"Content-Length: 1\r\n\r\n{";
+    let answer = r#"{"error":{"code":-32700,"message":"parse error"},"id":null,"jsonrpc":"2.0"}"#;
+    let mut printed = String::new(alloc);
+    push_frame(alloc, &mut printed, "told 0 7 ", answer)?;
+    push_whole(&mut printed, "held 0 0")?;
+    for cut in 1..=frame.len() {
+        let mut script = String::from_str(alloc, "daemon 0\nbegin 0 7 editor\nhear 0 7 ")?;
+        push_hex(alloc, &mut script, &frame[..cut])?;
+        if cut < frame.len() {
+            script.push_str("\nhear 0 7 ")?;
+            push_hex(alloc, &mut script, &frame[cut..])?;
+        }
+        script.push_str("\nheld 0\n")?;
+        assert_plays(&rt, script.as_bytes(), printed.as_str(), "")?;
+    }
+    Ok(())
 }
 
 #[test]
 fn bytes_may_come_and_go_one_at_a_time(rt: HostRuntime) -> Result<(), Fail> {
     let alloc = rt.alloc();
-    let mut source = ByteSource(SureSource::new(alloc, blob(alloc, MISSION.as_bytes())?)?);
-    let mut sink = ByteSink(SureSink::new(alloc, blob(alloc, b"> ")?)?);
+    let mut source = ByteSource(SureSource::new(alloc, blob(alloc, FIRST.as_bytes())?)?);
+    let mut sink = ByteSink(SureSink::new(alloc, Blob::empty(alloc)?)?);
     let end = run(alloc, &[], &mut source, &mut sink);
-    assert_eq!(rt; end, ReplayEnd { status: 0, line: 6 });
-    assert_eq!(rt; sink.0.written(), b"> show 0 quiet \"aXc\"\n".as_slice());
+    assert_eq!(rt; (end.status, end.line), (0, 7));
+    assert_eq!(rt; sink.0.written(), FIRST_OUTPUT.as_bytes());
     Ok(())
 }
 
@@ -139,68 +228,55 @@ fn failing_sink(alloc: Global) -> Result<MemSink, AllocError> {
 }
 
 #[test]
-fn a_source_that_fails_has_its_status(rt: HostRuntime) -> Result<(), Fail> {
+fn faults_of_the_outside_and_words_have_their_statuses(rt: HostRuntime) -> Result<(), Fail> {
     let alloc = rt.alloc();
-    let bytes = blob(alloc, MISSION.as_bytes())?;
+    let bytes = blob(alloc, FIRST.as_bytes())?;
     let mut source = MemSource::new(alloc, bytes, numbers(alloc, &[2])?)?;
     let mut sink = SureSink::new(alloc, Blob::empty(alloc)?)?;
     let end = run(alloc, &[], &mut source, &mut sink);
-    assert_eq!(rt; end, ReplayEnd { status: 4, line: 6 });
-    assert_eq!(rt; sink.written(), b"show 0 quiet \"aXc\"\n".as_slice());
-    Ok(())
-}
-
-#[test]
-fn a_sink_that_fails_has_its_status(rt: HostRuntime) -> Result<(), Fail> {
-    let alloc = rt.alloc();
-    let mut source = SureSource::new(alloc, blob(alloc, MISSION.as_bytes())?)?;
+    assert_eq!(rt; end, ReplayEnd::new(Some(ReplayFault::SourceFailed), 7));
+    assert_eq!(rt; sink.written(), FIRST_OUTPUT.as_bytes());
+    let mut source = SureSource::new(alloc, blob(alloc, FIRST.as_bytes())?)?;
     let mut sink = failing_sink(alloc)?;
+    let words = vec![in alloc; String::from_str(alloc, "x")?]?;
+    let end = run(alloc, words.as_slice(), &mut source, &mut sink);
+    assert_eq!(rt; end, ReplayEnd::new(Some(ReplayFault::Words), 0));
     let end = run(alloc, &[], &mut source, &mut sink);
-    assert_eq!(rt; end, ReplayEnd { status: 5, line: 6 });
+    assert_eq!(rt; end, ReplayEnd::new(Some(ReplayFault::SinkFailed), 6));
     assert!(rt; sink.written().is_empty());
     Ok(())
 }
 
 #[test]
-fn words_have_their_status(rt: HostRuntime) -> Result<(), Fail> {
-    let alloc = rt.alloc();
-    let mut source = SureSource::new(alloc, blob(alloc, MISSION.as_bytes())?)?;
-    let mut sink = failing_sink(alloc)?;
-    let words = vec![in alloc; String::from_str(alloc, "x")?]?;
-    let end = run(alloc, words.as_slice(), &mut source, &mut sink);
-    assert_eq!(rt; end, ReplayEnd { status: 1, line: 0 });
-    Ok(())
-}
-
-#[test]
-fn long_scripts_are_played(rt: HostRuntime) -> Result<(), Fail> {
-    let alloc = rt.alloc();
-    let text = String::from_utf8(vec![in alloc; b'x'; 5_000]?)?;
-    let mut script = format!(in alloc; "daemon 0\neditor 0 0 f \"{text}\"\n")?;
-    for _ in 0..100 {
-        script.push_str("type 0 0 0 \"y\"\n")?;
-    }
-    script.push_str("settle 0\nshow 0\n")?;
-    let (end, written) = replayed(alloc, script.as_bytes())?;
-    assert_eq!(rt;
-        end,
-        ReplayEnd {
-            status: 0,
-            line: 104
-        }
-    );
-    assert_eq!(rt; written.len(), 5_116);
-    assert!(rt; written.as_slice().starts_with(b"show 0 quiet \"yyyyy"));
-    Ok(())
-}
-
-#[test]
-fn faults_have_texts(rt: HostRuntime) -> Result<(), Fail> {
-    for (end, text) in [
-        (PlayEnd::NotPossible, "the move is not possible"),
-        (PlayEnd::Memory, "out of memory"),
+fn faults_have_statuses_and_texts(rt: HostRuntime) -> Result<(), Fail> {
+    for (fault, status, text) in [
+        (
+            ReplayFault::Words,
+            1,
+            "there was a word on the command line",
+        ),
+        (
+            ReplayFault::NotAMove,
+            2,
+            "the line is no move of the script language",
+        ),
+        (ReplayFault::NotPossible, 2, "the move is not possible here"),
+        (ReplayFault::NoLineEnd, 2, "the line has no LF"),
+        (
+            ReplayFault::SourceFailed,
+            4,
+            "the script could not be read further",
+        ),
+        (
+            ReplayFault::SinkFailed,
+            5,
+            "the output could not be written",
+        ),
+        (ReplayFault::Memory, 6, "out of memory"),
+        (ReplayFault::TooLong, 7, "the script is too long"),
     ] {
-        assert_eq!(rt; format!(in rt.alloc(); "{end}")?.as_str(), text);
+        assert_eq!(rt; ReplayEnd::new(Some(fault), 3).status, status);
+        assert_eq!(rt; format!(in rt.alloc(); "{fault}")?.as_str(), text);
     }
     Ok(())
 }

@@ -1,11 +1,12 @@
 //! How the program ends: its status, and the line on standard error.
 
-ghost use Rattle.std.specs.Prelude.{◌≡◌};
+ghost use Rattle.std.specs.Prelude.{◌≡◌, Some};
 ghost use Rattle.std.specs.Process.{exit_status};
 ghost use Rattle.std.specs.IoError.{error_kind};
-ghost use Rattle.teamreplay.specs.Ends.{status_unread};
+ghost use Rattle.replay.specs.Faults.{status_of};
+ghost use Rattle.teamreplay.specs.Ends.{fault_unread};
 
-use replay::ReplayEnd;
+use replay::{ReplayEnd, ReplayFault};
 use std::process::ExitCode;
 use std::{fmt, io};
 
@@ -26,15 +27,20 @@ impl fmt::Display for EndLine {
     }
 }
 
+fn fault_unread(error: &io::Error) -> ReplayFault
+    ensures { result ≡ fault_unread (error_kind error.now) }
+{
+    match error.kind() {
+        io::ErrorKind::OutOfMemory => ReplayFault::Memory,
+        _ => ReplayFault::Words,
+    }
+}
+
 /// The end where the words of the command line cannot be read. Nothing was played.
 pub fn end_unread(error: &io::Error) -> ReplayEnd
-    ensures { result ≡ record { status = status_unread (error_kind error.now); line = 0 } }
+    ensures { let fault = Some (fault_unread (error_kind error.now)) in result ≡ record { status = status_of fault; line = 0; fault = fault } }
 {
-    let status = match error.kind() {
-        io::ErrorKind::OutOfMemory => 6,
-        _ => 1,
-    };
-    ReplayEnd { status, line: 0 }
+    ReplayEnd::new(Some(fault_unread(error)), 0)
 }
 
 /// Tells an end that is no success on standard error, and gives the status of the program.

@@ -1,7 +1,7 @@
 use super::ends::{EndLine, end_unread, tell_end};
 use super::standard::{StandardInput, StandardOutput};
 use outside::{Gave, Sink, Source, Took};
-use replay::{ReplayEnd, replay_run};
+use replay::{ReplayEnd, ReplayFault, replay_run};
 use std::alloc::Global;
 use std::fmt::Display;
 use std::io::{self, ErrorKind, Read, Write};
@@ -42,17 +42,28 @@ impl Write for Broken {
 
 #[test]
 fn an_end_is_told_by_its_line_and_its_status(rt: HostRuntime) -> Result<(), Fail> {
-    for (status, line, text) in [
-        (0, 6, "teamreplay: status 0 at line 6"),
-        (1, 0, "teamreplay: status 1 at line 0"),
-        (2, 7, "teamreplay: status 2 at line 7"),
+    for (fault, line, status, text) in [
+        (None, 6, 0, "teamreplay: status 0 at line 6"),
         (
+            Some(ReplayFault::Words),
+            0,
+            1,
+            "teamreplay: status 1 at line 0",
+        ),
+        (
+            Some(ReplayFault::NotPossible),
             7,
+            2,
+            "teamreplay: status 2 at line 7",
+        ),
+        (
+            Some(ReplayFault::TooLong),
             u64::MAX,
+            7,
             "teamreplay: status 7 at line 18446744073709551615",
         ),
     ] {
-        let end = ReplayEnd { status, line };
+        let end = ReplayEnd::new(fault, line);
         let told = EndLine(end);
         assert_eq!(rt; format!(in rt.alloc(); "{told}")?.as_str(), text);
         assert!(rt;
@@ -77,17 +88,20 @@ fn played<S: Source, K: Sink>(
 #[test]
 fn words_end_the_replay(rt: HostRuntime) -> Result<(), Fail> {
     let alloc = rt.alloc();
-    for (kind, status) in [(ErrorKind::OutOfMemory, 6), (ErrorKind::InvalidData, 1)] {
+    for (kind, fault) in [
+        (ErrorKind::OutOfMemory, ReplayFault::Memory),
+        (ErrorKind::InvalidData, ReplayFault::Words),
+    ] {
         let end = end_unread(&io::Error::from(kind));
-        assert_eq!(rt; end, ReplayEnd { status, line: 0 });
+        assert_eq!(rt; end, ReplayEnd::new(Some(fault), 0));
     }
     let mut script = StandardInput::new(SCRIPT);
     let mut out = StandardOutput::new(Vec::new(alloc));
     let word = vec![in alloc; String::from_str(alloc, "x")?]?;
     let end = played(alloc, word.as_slice(), &mut script, &mut out);
-    assert_eq!(rt; end, ReplayEnd { status: 1, line: 0 });
+    assert_eq!(rt; end, ReplayEnd::new(Some(ReplayFault::Words), 0));
     let end = played(alloc, &[], &mut script, &mut out);
-    assert_eq!(rt; end, ReplayEnd { status: 0, line: 3 });
+    assert_eq!(rt; end, ReplayEnd::new(None, 3));
     assert_eq!(rt; out.writer.as_slice(), b"show 0 busy \"abc\"\n".as_slice());
     Ok(())
 }

@@ -7,9 +7,10 @@ play_piece-requires-clause-begun g c = pending_inner _ _ _ _ _ _ c.loop-taken.in
 
 pub loop-taken-preserved : goal.loop-taken-preserved
 loop-taken-preserved g c =
-    pieced_on _ _ _ _ _ _ _ c.loop-taken.invariant c.read_piece.new.buf c.in-Bytes.count c.in-Bytes.ensures.takes _ _ c.in-Whole.ensures (omega (arith, c.in-Bytes.ensures.within))
+    pieced_on _ _ _ _ _ _ _ c.loop-taken.invariant c.read_piece.new.buf c.in-Bytes.count c.in-Bytes.ensures.takes (omega (arith, c.in-Bytes.ensures.within)) _ _
+    c.in_ok-play_piece-in-Bytes.ensures
 
-pub returns-in_default : goal.returns-in_default
-returns-in_default g c =
-    rw c.stopped_at.ensures (piece_stops _ _ _ _ _ _ _ c.loop-taken.invariant c.read_piece.new.buf c.in-Bytes.count c.in-Bytes.ensures.takes _ _ _ c.in_default.not-Whole
-    c.play_piece.ensures (omega (arith, c.in-Bytes.ensures.within)))
+pub returns-in_err-play_piece-in-Bytes : goal.returns-in_err-play_piece-in-Bytes
+returns-in_err-play_piece-in-Bytes g c =
+    piece_stops _ _ _ _ _ _ _ c.loop-taken.invariant c.read_piece.new.buf c.in-Bytes.count c.in-Bytes.ensures.takes (omega (arith, c.in-Bytes.ensures.within)) _ _ _ _
+    c.from_residual.ensures.1 c.in_err-play_piece-in-Bytes.ensures
