@@ -90,7 +90,9 @@ carry_carries l seen shown revision p queue c can is all next change delta left 
 pub carried_base : (l : Link) (seen : ℕ) (p : Cells) (c : Carried) → IsChain (length l.base) l.unconfirmed → IsCarried l seen p c
     → base_length c.change ≡ length l.base
 carried_base l seen p c chain h =
-    one_base (take (seen - l.confirmed) l.unconfirmed) p (base_length c.change) (length l.base) h.change.chain (taking_all l seen p chain h.can)
+    let all : List Cells = take (seen - l.confirmed) l.unconfirmed ++ p ∷ [] in
+    let some : 0 < length all = omega (arith, length-append (take (seen - l.confirmed) l.unconfirmed) (p ∷ [])) in
+    one_base all (base_length c.change) (length l.base) some h.change.chain (taking_all l seen p chain h.can)
 
 carried_text : (l : Link) (seen : ℕ) (p : Cells) (c : Carried) → IsChain (length l.base) l.unconfirmed → IsCarried l seen p c
     → applied c.change l.base ≡ applied p (editor_text seen l)

@@ -139,8 +139,7 @@ impl Bridge {
         ensures shown { IfOk result (StandsFor (take shown self.now.unconfirmed)) }
         ensures base { IfOk result (λ all. base_length all ≡ length self.now.base) }
     {
-        let queue = self.queue.as_slice();
-        compose_all(alloc, &queue[0], &queue[1..shown])
+        compose_all(alloc, &self.queue.as_slice()[..shown])
     }
 
     /// The editor's text after `seen` of the daemon's deltas.

@@ -1,4 +1,4 @@
-ghost use Rattle.std.specs.Prelude.{◌≡◌, ◌≤◌, ◌++◌, ◌∷◌, [], length, take, drop, IfOk};
+ghost use Rattle.std.specs.Prelude.{◌≡◌, ◌<◌, ◌≤◌, ◌++◌, ◌∷◌, [], length, take, drop, IfOk};
 ghost use Rattle.delta.specs.Cells.{base_length};
 ghost use Rattle.transform.specs.Carried.{IsChain, past_list, list_past};
 ghost use Rattle.editor_bridge.specs.Frames.{frames};
@@ -11,15 +11,20 @@ use transform::pass_list;
 use tt_base::List;
 
 /// Deltas that apply one after the other, as one delta.
-pub(crate) fn compose_all(alloc: Global, first: &Delta, rest: &[Delta]) -> Result<Delta, AllocError>
-    requires { AreInTurn (first.now ∷ rest.now) }
-    ensures { IfOk result (StandsFor (first.now ∷ rest.now)) }
+///
+/// Halves are composed with each other, so each change is copied as often as their number can be halved.
+pub(crate) fn compose_all(alloc: Global, deltas: &[Delta]) -> Result<Delta, AllocError>
+    requires some { 0 < length deltas.now }
+    requires in_turn { AreInTurn deltas.now }
+    ensures { IfOk result (StandsFor deltas.now) }
 {
-    let mut all = first.copied(alloc)?;
-    for delta in rest {
-        all = compose(alloc, &all, delta)?;
+    if deltas.len() == 1 {
+        return deltas[0].copied(alloc);
     }
-    Ok(all)
+    let (front, back) = deltas.split_at(deltas.len() / 2);
+    let first = compose_all(alloc, front)?;
+    let second = compose_all(alloc, back)?;
+    compose(alloc, &first, &second)
 }
 
 /// The deltas that the editor has shown and then its own `p`, as one delta.
@@ -30,7 +35,7 @@ fn compose_with(alloc: Global, shown: &[Delta], p: &Delta) -> Result<Delta, Allo
     if shown.is_empty() {
         p.copied(alloc)
     } else {
-        let all = compose_all(alloc, &shown[0], &shown[1..])?;
+        let all = compose_all(alloc, shown)?;
         compose(alloc, &all, p)
     }
 }

@@ -1,4 +1,4 @@
-use Rattle.std.proofs.Common.{◌≡◌, ◌-◌, List, ◌++◌, length, take, drop, ap, ◌∙◌}
+use Rattle.std.proofs.Common.{◌-◌, List, ◌++◌, length, take, drop, ap, ◌∙◌}
 use Rattle.std.proofs.lemmas.List.{take_at, length-drop}
 use Rattle.delta.specs.Cells.{Cells}
 use Rattle.editor_bridge.proofs.carrying.without_first.Goals as goal
