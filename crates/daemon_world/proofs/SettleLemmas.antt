@@ -1,5 +1,5 @@
 -- A move again and again: one more time at the end, and who is there then.
-use Rattle.std.proofs.Common.{◌≡◌, ℕ, zero, suc, Bool, true, false, List, [], ◌∷◌, ◌++◌, ◌+◌, length, map, Some, None, is_some, refl, sym, ap, ◌∙◌, subst, append_assoc, add-one, rules}
+use Rattle.std.proofs.Common.{◌≡◌, ℕ, zero, suc, Bool, true, false, List, [], ◌∷◌, ◌++◌, ◌+◌, ◌≤◌, length, map, Some, None, is_some, refl, sym, ap, ◌∙◌, subst, append_assoc, add-one, arith, rules}
 use Rattle.std.specs.Prelude.{slice_get, slice_set}
 use Rattle.std.specs.List.{list_any}
 use Rattle.daemon_core.specs.Outputs.{serve}
@@ -7,7 +7,7 @@ use Rattle.daemon_core.specs.declared.events.Event.{Event}
 use Rattle.daemon_core.specs.declared.events.Event.TheVariants.{EditorFrame}
 use Rattle.daemon_core.specs.declared.events.Output.{Output}
 use Rattle.kept_world.specs.Events.{KeptPlayed, told_editor, is_stop, stops_if, IsEvent}
-use Rattle.kept_world.specs.Moves.{Repeats, Never, Once_more, then_played, IsUp, IsDown, IsSettled, is_connected}
+use Rattle.kept_world.specs.Moves.{Repeats, Never, No_more, Once_more, then_played, IsUp, GoesUp, GoesDown, IsSettled, is_connected}
 use Rattle.kept_world.specs.Steps.{quietly}
 use Rattle.kept_world.specs.Worlds.{KeptHost, KeptEditor, KeptWorld, editor_of, with_seat, lost_with}
 
@@ -16,26 +16,37 @@ use Rattle.kept_world.specs.Worlds.{KeptHost, KeptEditor, KeptWorld, editor_of, 
 nothing_more : (printed : List ℕ) → printed ++ [] ≡ printed
 nothing_more printed = search rules
 
-pub once_more : (Does : KeptWorld → KeptPlayed → Type 0) (n : ℕ) (k : KeptWorld) (p next : KeptPlayed) → Repeats Does n k p → Does p.world next
-    → Repeats Does (suc n) k (then_played p next)
-once_more Does n k p next (Never v) does =
-    subst (λ printed. Repeats Does (suc 0) v (record { world = next.world; printed = printed })) (nothing_more next.printed)
+pub once_more : (Does : KeptWorld → KeptPlayed → Type 0) (can : KeptWorld → Bool) (n : ℕ) (k : KeptWorld) (p next : KeptPlayed) → Repeats Does can n k p
+    → can p.world ≡ true → Does p.world next → Repeats Does can (suc n) k (then_played p next)
+once_more Does can n k p next (Never v) more does =
+    subst (λ printed. Repeats Does can (suc 0) v (record { world = next.world; printed = printed })) (nothing_more next.printed)
     (Once_more 0 v next (quietly next.world) does (Never next.world))
-once_more Does n k p next (Once_more m v first rest one more) does =
-    subst (λ printed. Repeats Does (suc (suc m)) v (record { world = next.world; printed = printed }))
+once_more Does can n k p next (No_more m v none) more does = let never : false ≡ true = sym none ∙ more in cc
+once_more Does can n k p next (Once_more m v first rest one others) more does =
+    subst (λ printed. Repeats Does can (suc (suc m)) v (record { world = next.world; printed = printed }))
     (sym (append_assoc first.printed rest.printed next.printed))
-    (Once_more (suc m) v first (then_played rest next) one (once_more Does m first.world rest next more does))
+    (Once_more (suc m) v first (then_played rest next) one (once_more Does can m first.world rest next others more does))
 
 -- the same, with what was printed as one list
-pub again_printed : (Does : KeptWorld → KeptPlayed → Type 0) (n m : ℕ) (k : KeptWorld) (p next : KeptPlayed) (printed : List ℕ) → Repeats Does n k p
-    → Does p.world next → m ≡ n + 1 → printed ≡ p.printed ++ next.printed → Repeats Does m k (record { world = next.world; printed = printed })
-again_printed Does n m k p next printed so_far does count lines =
-    subst (λ i. Repeats Does i k (record { world = next.world; printed = printed })) (sym (count ∙ add-one n))
-    (subst (λ s. Repeats Does (suc n) k (record { world = next.world; printed = s })) (sym lines) (once_more Does n k p next so_far does))
+pub again_printed : (Does : KeptWorld → KeptPlayed → Type 0) (can : KeptWorld → Bool) (n m : ℕ) (k : KeptWorld) (p next : KeptPlayed) (printed : List ℕ)
+    → Repeats Does can n k p → can p.world ≡ true → Does p.world next → m ≡ n + 1 → printed ≡ p.printed ++ next.printed
+    → Repeats Does can m k (record { world = next.world; printed = printed })
+again_printed Does can n m k p next printed so_far more does count lines =
+    subst (λ i. Repeats Does can i k (record { world = next.world; printed = printed })) (sym (count ∙ add-one n))
+    (subst (λ s. Repeats Does can (suc n) k (record { world = next.world; printed = s })) (sym lines) (once_more Does can n k p next so_far more does))
 
-pub none_printed : (Does : KeptWorld → KeptPlayed → Type 0) (k : KeptWorld) (printed : List ℕ) → printed ≡ []
-    → Repeats Does 0 k (record { world = k; printed = printed })
-none_printed Does k printed none = subst (λ s. Repeats Does 0 k (record { world = k; printed = s })) (sym none) (Never k)
+pub none_printed : (Does : KeptWorld → KeptPlayed → Type 0) (can : KeptWorld → Bool) (k : KeptWorld) (printed : List ℕ) → printed ≡ []
+    → Repeats Does can 0 k (record { world = k; printed = printed })
+none_printed Does can k printed none = subst (λ s. Repeats Does can 0 k (record { world = k; printed = s })) (sym none) (Never k)
+
+-- where it is no longer possible, it was done as often as it was, whatever the count
+pub no_more : (Does : KeptWorld → KeptPlayed → Type 0) (can : KeptWorld → Bool) (n m : ℕ) (k : KeptWorld) (p : KeptPlayed) → Repeats Does can n k p
+    → can p.world ≡ false → n ≤ m → Repeats Does can m k p
+no_more Does can n m k p (Never v) none few = No_more m v none
+no_more Does can n m k p (No_more i v stopped) none few = No_more m v stopped
+no_more Does can n zero k p (Once_more i v first rest one others) none few = absurd (omega (arith, few))
+no_more Does can n (suc m) k p (Once_more i v first rest one others) none few =
+    Once_more m v first rest one (no_more Does can i m first.world rest others none (omega (arith, few)))
 
 -- ---- editors stay
 
@@ -70,24 +81,25 @@ up_there k e i p up =
     event_there (with_seat k e up.editor s) up.editor.daemon (EditorFrame up.number up.body) p i up.event
     ∙ set_there k.editors e i (record up.editor { seat = s })
 
-pub still_there : (e i n : ℕ) (k : KeptWorld) (p : KeptPlayed) → Repeats (λ v. IsUp v e) n k p → is_some (editor_of p.world i) ≡ is_some (editor_of k i)
+pub still_there : (e i n : ℕ) (k : KeptWorld) (p : KeptPlayed) → GoesUp e n k p → is_some (editor_of p.world i) ≡ is_some (editor_of k i)
 still_there e i n k p (Never v) = refl
+still_there e i n k p (No_more m v none) = refl
 still_there e i n k p (Once_more m v first rest one more) = still_there e i m first.world rest more ∙ up_there v e i first one
 
 -- all up, and then all down
 pub settled_so : (k : KeptWorld) (e n m : ℕ) (before between : KeptEditor) (up down : KeptPlayed) (printed : List ℕ) → editor_of k e ≡ Some before
-    → is_connected (editor_of k e) ≡ true → n ≡ length before.seat.up → Repeats (λ v. IsUp v e) n k up → editor_of up.world e ≡ Some between
-    → m ≡ length between.seat.down → Repeats (λ v. IsDown v e) m up.world down → printed ≡ up.printed ++ down.printed
+    → is_connected (editor_of k e) ≡ true → n ≡ length before.seat.up → GoesUp e n k up → editor_of up.world e ≡ Some between
+    → m ≡ length between.seat.down → GoesDown e m up.world down → printed ≡ up.printed ++ down.printed
     → IsSettled k e (record { world = down.world; printed = printed })
 settled_so k e n m before between up down printed at on ups goes_up still downs goes_down lines = record {
   before = before;
   there = at;
   connected = ap is_connected (sym at) ∙ on;
   up = up;
-  goes_up = subst (λ i. Repeats (λ v. IsUp v e) i k up) ups goes_up;
+  goes_up = subst (λ i. GoesUp e i k up) ups goes_up;
   between = between;
   still = still;
   down = down;
-  goes_down = subst (λ i. Repeats (λ v. IsDown v e) i up.world down) downs goes_down;
+  goes_down = subst (λ i. GoesDown e i up.world down) downs goes_down;
   is = λ i. record { world = down.world; printed = lines i };
 }

@@ -1,6 +1,6 @@
 ghost use Rattle.std.specs.Prelude.{◌≡◌, true, IfOk, OnErr, string_bytes};
 ghost use Rattle.frame_world.specs.Seats.{IsDelivered};
-ghost use Rattle.kept_world.specs.Moves.{IsUp, IsDown, IsSettled, Repeats, has_up, has_down, is_connected};
+ghost use Rattle.kept_world.specs.Moves.{IsUp, IsDown, IsSettled, GoesUp, GoesDown, has_up, has_down, is_connected};
 ghost use Rattle.kept_world.specs.Worlds.{editor_of};
 
 use crate::machine::Machine;
@@ -52,15 +52,14 @@ impl Machine {
         Ok(line)
     }
 
-    /// So many bodies under way from an editor come to its daemon in turn.
+    /// So many bodies under way from an editor come to its daemon in turn, as long as there is one.
     fn up_times(&mut self, alloc: Global, e: u64, times: usize) -> Result<String, AllocError>
-        ensures { IfOk result (λ printed. Repeats (λ v. IsUp v e) times self.old (record { world = self.new; printed = string_bytes printed })) }
+        ensures { IfOk result (λ printed. GoesUp e times self.old (record { world = self.new; printed = string_bytes printed })) }
     {
         let mut printed = String::new(alloc);
         for _ in 0..times {
-            // A daemon that stops ends the connection: no editor of a script asks for that.
             if !self.has_up(e) {
-                return Err(AllocError);
+                return Ok(printed);
             }
             let lines = self.up(alloc, e)?;
             printed.push_str(lines.as_str())?;
@@ -68,14 +67,14 @@ impl Machine {
         Ok(printed)
     }
 
-    /// So many frames under way to an editor come to it in turn.
+    /// So many frames under way to an editor come to it in turn, as long as there is one.
     fn down_times(&mut self, alloc: Global, e: u64, times: usize) -> Result<String, AllocError>
-        ensures { IfOk result (λ printed. Repeats (λ v. IsDown v e) times self.old (record { world = self.new; printed = string_bytes printed })) }
+        ensures { IfOk result (λ printed. GoesDown e times self.old (record { world = self.new; printed = string_bytes printed })) }
     {
         let mut printed = String::new(alloc);
         for _ in 0..times {
             if !self.has_down(e) {
-                return Err(AllocError);
+                return Ok(printed);
             }
             let lines = self.down(alloc, e)?;
             printed.push_str(lines.as_str())?;

@@ -74,11 +74,28 @@ pub record IsDown (k : KeptWorld) (e : ℕ) (p : KeptPlayed) : Type 0 where
 abbrev pub then_played : KeptPlayed → KeptPlayed → KeptPlayed
 then_played first next = record { world = next.world; printed = first.printed ++ next.printed }
 
--- a move, so many times
-pub data Repeats (Does : KeptWorld → KeptPlayed → Type 0) : ℕ → KeptWorld → KeptPlayed → Type 0 where
-  Never : (k : KeptWorld) → Repeats Does 0 k (quietly k)
-  Once_more : (n : ℕ) (k : KeptWorld) (first next : KeptPlayed) → Does k first → Repeats Does n first.world next
-      → Repeats Does (suc n) k (then_played first next)
+-- a move, so many times as long as it is possible
+pub data Repeats (Does : KeptWorld → KeptPlayed → Type 0) (can : KeptWorld → Bool) : ℕ → KeptWorld → KeptPlayed → Type 0 where
+  Never : (k : KeptWorld) → Repeats Does can 0 k (quietly k)
+  No_more : (n : ℕ) (k : KeptWorld) → can k ≡ false → Repeats Does can n k (quietly k)
+  Once_more : (n : ℕ) (k : KeptWorld) (first next : KeptPlayed) → Does k first → Repeats Does can n first.world next
+      → Repeats Does can (suc n) k (then_played first next)
+
+-- whether something is under way from an editor, and to it
+abbrev pub has_up : Option KeptEditor → Bool
+has_up None = false
+has_up (Some x) = nat_lt 0 (length x.seat.up)
+
+abbrev pub has_down : Option KeptEditor → Bool
+has_down None = false
+has_down (Some x) = nat_lt 0 (length x.seat.down)
+
+-- the first body under way from an editor comes to its daemon, again and again; and so to it
+abbrev pub GoesUp : ℕ → ℕ → KeptWorld → KeptPlayed → Type 0
+GoesUp e = Repeats (λ k. IsUp k e) (λ k. has_up (editor_of k e))
+
+abbrev pub GoesDown : ℕ → ℕ → KeptWorld → KeptPlayed → Type 0
+GoesDown e = Repeats (λ k. IsDown k e) (λ k. has_down (editor_of k e))
 
 -- all that is under way from an editor comes to its daemon, and then all that is under way to it comes to it
 pub record IsSettled (k : KeptWorld) (e : ℕ) (p : KeptPlayed) : Type 0 where
@@ -86,11 +103,11 @@ pub record IsSettled (k : KeptWorld) (e : ℕ) (p : KeptPlayed) : Type 0 where
   pub there : editor_of k e ≡ Some before
   pub connected : is_some before.connection ≡ true
   pub up : KeptPlayed
-  pub goes_up : Repeats (λ v. IsUp v e) (length before.seat.up) k up
+  pub goes_up : GoesUp e (length before.seat.up) k up
   pub between : KeptEditor
   pub still : editor_of up.world e ≡ Some between
   pub down : KeptPlayed
-  pub goes_down : Repeats (λ v. IsDown v e) (length between.seat.down) up.world down
+  pub goes_down : GoesDown e (length between.seat.down) up.world down
   pub is : p ≡ then_played up down
 
 -- Connections that a script feeds.
@@ -144,15 +161,6 @@ IsMove base reader k (Move.BeginEditor d c) p = raw_begins k d c ≡ Some p
 IsMove base reader k (Move.Hear d c piece) p = IsHeardOn reader k d c piece p
 IsMove base reader k (Move.End d c) p = raw_ends k d c ≡ Some p
 IsMove base reader k moved p = ⊥
-
--- whether something is under way from an editor, and to it
-abbrev pub has_up : Option KeptEditor → Bool
-has_up None = false
-has_up (Some x) = nat_lt 0 (length x.seat.up)
-
-abbrev pub has_down : Option KeptEditor → Bool
-has_down None = false
-has_down (Some x) = nat_lt 0 (length x.seat.down)
 
 abbrev pub is_connected : Option KeptEditor → Bool
 is_connected None = false

@@ -1,7 +1,6 @@
 use Rattle.std.proofs.Common.{string_bytes}
-use Rattle.kept_world.specs.Moves.{Repeats, IsDown}
-use Rattle.kept_world.specs.Worlds.{KeptWorld}
+use Rattle.kept_world.specs.Moves.{GoesDown}
 use Rattle.daemon_world.proofs.machine.Machine.down_times.Given as goal
 
 abbrev pub invariant-loop : goal.invariant-loop
-invariant-loop l = Repeats (λ (v : KeptWorld). IsDown v l.e) l.counter l.fn.self (record { world = l.self; printed = string_bytes l.printed })
+invariant-loop l = GoesDown l.e l.counter l.fn.self (record { world = l.self; printed = string_bytes l.printed })
