@@ -1,5 +1,5 @@
 -- What is delivered from an editor, and to it.
-use Rattle.std.proofs.Common.{◌≡◌, ℕ, ◌<◌, Bool, true, false, List, [], ◌∷◌, length, nat_lt, Option, Some, None, is_some, refl, sym, ap, ◌∙◌, subst, arith}
+use Rattle.std.proofs.Common.{◌≡◌, ℕ, true, false, List, [], ◌∷◌, length, nat_lt, Option, Some, None, is_some, refl, sym, ap, ◌∙◌, subst}
 use Rattle.editor_client.specs.declared.notes.HeardNote.{HeardNote}
 use Rattle.daemon_core.specs.declared.events.Event.TheVariants.{EditorFrame}
 use Rattle.frame_world.specs.Lines.{note_line}
@@ -8,7 +8,7 @@ use Rattle.kept_world.specs.Events.{KeptPlayed, IsEvent}
 use Rattle.kept_world.specs.Moves.{IsUp, IsDown, has_up, has_down}
 use Rattle.kept_world.specs.Worlds.{KeptEditor, KeptWorld, running, editor_of, with_editor, with_seat}
 use Rattle.daemon_world.specs.Order.{IsConnectedOn, IsApart, IsOrderly}
-use Rattle.daemon_world.proofs.OrderLemmas.{HasPlace, place_of, editor_set, seat_set}
+use Rattle.daemon_world.proofs.OrderLemmas.{editor_set, seat_set}
 
 pub up_sits : (o : Option KeptEditor) → has_up o ≡ true → is_some o ≡ true
 up_sits None up = cc

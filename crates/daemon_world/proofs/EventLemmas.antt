@@ -7,7 +7,7 @@ use Rattle.daemon_core.specs.Outputs.{serve}
 use Rattle.daemon_core.specs.Sending.{AllCanBeSent}
 use Rattle.daemon_core.specs.declared.events.Event.{Event}
 use Rattle.daemon_core.specs.declared.events.Output.{Output}
-use Rattle.kept_world.specs.Events.{KeptPlayed, told_editor, fed_lines, is_stop, stops_if, after_event, IsEvent}
+use Rattle.kept_world.specs.Events.{told_editor, fed_lines, is_stop, stops_if, after_event, IsEvent}
 use Rattle.kept_world.specs.Worlds.{KeptHost, KeptEditor, KeptWorld, if_there, with_host, lost_with, without_host}
 use Rattle.plain_world.proofs.ListLemmas.{at_set}
 use Rattle.kept_world.proofs.EventLemmas.{set_again}

@@ -1,6 +1,5 @@
 -- A move that is possible, as the step that makes it wants it: whose number is the next one, and which daemon runs.
-use Rattle.std.proofs.Common.{◌≡◌, ℕ, ◌<◌, ◌==◌, Bool, true, false, ◌&&◌, List, [], length, Option, Some, None, Result, Ok, Err, String, Global, string_bytes, is_some, nat_le, nat_lt, refl, sym, ap, ◌∙◌, subst, arith}
-use Rattle.std.specs.Prelude.{option_and_then}
+use Rattle.std.proofs.Common.{◌≡◌, ℕ, ◌<◌, ◌==◌, Bool, true, false, ◌&&◌, List, [], length, Result, Ok, Err, String, Global, string_bytes, is_some, nat_le, nat_lt, refl, sym, ap, subst, arith}
 use Rattle.std.specs.Result.{IfOk, OnOk, is_ok}
 use Rattle.std.proofs.lemmas.Bool.{eqb-true}
 use Rattle.std.proofs.lemmas.Bool.Decides.{nat_tests}
@@ -12,7 +11,7 @@ use Rattle.plain_world.specs.declared.TheConstants.{MOST_DAEMONS, MOST_EDITORS, 
 use Rattle.plain_world.proofs.StepLemmas.{found_then, allowed_if}
 use Rattle.kept_world.specs.Moves.{IsMove}
 use Rattle.kept_world.specs.Steps.{quietly, begins, joins, tells_file, tells_held}
-use Rattle.kept_world.specs.Worlds.{KeptHost, KeptEditor, KeptWorld, running, editor_of}
+use Rattle.kept_world.specs.Worlds.{KeptWorld, running}
 use Rattle.daemon_world.proofs.OrderLemmas.{there}
 
 first_holds : (a b : Bool) → (a && b) ≡ true → a ≡ true

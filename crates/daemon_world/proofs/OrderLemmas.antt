@@ -1,15 +1,14 @@
 -- What each step of a world keeps: each connection is that of the editor it was begun for, and a lost editor has nothing under way.
-use Rattle.std.proofs.Common.{◌≡◌, ◌⊎◌, inl, inr, ℕ, ◌+◌, ◌-◌, ◌≤◌, ◌<◌, ◌==◌, Bool, true, false, List, [], ◌∷◌, ◌++◌, length, get_or, take, drop, map, Option, Some, None, is_some, refl, sym, ap, ◌∙◌, subst, arith}
+use Rattle.std.proofs.Common.{◌≡◌, ◌⊎◌, inl, inr, ℕ, ◌+◌, ◌-◌, ◌<◌, ◌==◌, Bool, true, false, List, [], ◌∷◌, ◌++◌, length, get_or, take, drop, map, Option, Some, None, is_some, refl, sym, ap, ◌∙◌, subst, arith}
 use Rattle.std.specs.Prelude.{slice_get, slice_set, option_and_then, if◌then◌else◌}
 use Rattle.std.proofs.lemmas.Bool.{eqb-true, eqb-false}
 use Rattle.std.proofs.lemmas.List.{append-nil, drop_all, length-map, take_all}
 use Rattle.std.proofs.lemmas.Option.{slice_get_within}
 use Rattle.bridge_world.proofs.RoomLemmas.{got}
 use Rattle.daemon_core.specs.declared.events.Output.{Output}
-use Rattle.editor_client.specs.Editor.{is_closed}
 use Rattle.frame_world.specs.Seats.{Seat}
 use Rattle.plain_world.specs.declared.TheConstants.{FIRST_OWN}
-use Rattle.plain_world.proofs.ListLemmas.{from_map, from_set, from_push, at_set, at_push, beside_set}
+use Rattle.plain_world.proofs.ListLemmas.{from_map, from_set, at_push}
 use Rattle.kept_world.specs.Events.{received_on, told_editor}
 use Rattle.kept_world.specs.Worlds.{KeptHost, KeptEditor, KeptWorld, if_there, running, editor_of, with_host, with_editor, with_seat, cut_off, lost_with, without_host}
 use Rattle.kept_world.proofs.HostLemmas.{running_set, running_beside}

@@ -1,6 +1,6 @@
 -- A move that is made, in the plain machine.
-use Rattle.std.proofs.Common.{◌≡◌, ℕ, Bool, true, false, List, Option, Some, None, is_some, refl, sym, ap, ◌∙◌, subst}
-use Rattle.file_uri.specs.Base.{BaseView, IsBase}
+use Rattle.std.proofs.Common.{◌≡◌, true, false, Option, Some, None, is_some, refl, sym, ap, ◌∙◌}
+use Rattle.file_uri.specs.Base.{BaseView}
 use Rattle.replay_script.specs.declared.moves.Move.{Move}
 use Rattle.plain_world.specs.RawFrames.{Reader}
 use Rattle.plain_world.specs.Step.{played}

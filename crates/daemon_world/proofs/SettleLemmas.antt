@@ -1,15 +1,14 @@
 -- A move again and again: one more time at the end, and who is there then.
-use Rattle.std.proofs.Common.{◌≡◌, ℕ, zero, suc, Bool, true, false, List, [], ◌∷◌, ◌++◌, ◌+◌, ◌≤◌, length, map, Some, None, is_some, refl, sym, ap, ◌∙◌, subst, append_assoc, add-one, arith, rules}
+use Rattle.std.proofs.Common.{◌≡◌, ℕ, zero, suc, Bool, true, false, List, [], ◌∷◌, ◌++◌, ◌+◌, ◌≤◌, length, map, Some, is_some, refl, sym, ap, ◌∙◌, subst, append_assoc, add-one, arith, rules}
 use Rattle.std.specs.Prelude.{slice_get, slice_set}
 use Rattle.std.specs.List.{list_any}
 use Rattle.daemon_core.specs.Outputs.{serve}
 use Rattle.daemon_core.specs.declared.events.Event.{Event}
 use Rattle.daemon_core.specs.declared.events.Event.TheVariants.{EditorFrame}
-use Rattle.daemon_core.specs.declared.events.Output.{Output}
 use Rattle.kept_world.specs.Events.{KeptPlayed, told_editor, is_stop, stops_if, IsEvent}
 use Rattle.kept_world.specs.Moves.{Repeats, Never, No_more, Once_more, then_played, IsUp, GoesUp, GoesDown, IsSettled, is_connected}
 use Rattle.kept_world.specs.Steps.{quietly}
-use Rattle.kept_world.specs.Worlds.{KeptHost, KeptEditor, KeptWorld, editor_of, with_seat, lost_with}
+use Rattle.kept_world.specs.Worlds.{KeptEditor, KeptWorld, editor_of, with_seat, lost_with}
 
 -- ---- one more time
 

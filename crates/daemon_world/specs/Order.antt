@@ -1,5 +1,5 @@
 -- What always holds of the worlds that moves lead to: for whom each connection was begun, and where something may be under way.
-use Rattle.std.specs.Prelude.{◌≡◌, ◌≤◌, ◌-◌, ℕ, true, List, [], Option, Some, None, is_some, slice_get}
+use Rattle.std.specs.Prelude.{◌≡◌, ◌≤◌, ◌-◌, ℕ, true, List, [], Some, None, is_some, slice_get}
 use Rattle.editor_client.specs.Editor.{is_closed}
 use Rattle.plain_world.specs.declared.TheConstants.{FIRST_OWN}
 use Rattle.kept_world.specs.Worlds.{KeptEditor, KeptWorld, running, editor_of}

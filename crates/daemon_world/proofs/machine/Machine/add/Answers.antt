@@ -1,4 +1,4 @@
-use Rattle.std.proofs.Common.{◌≡◌, ◌+◌, List, ◌∷◌, [], ◌++◌, Some, is_some, length, refl, sym, ap, ◌∙◌, subst, arith}
+use Rattle.std.proofs.Common.{◌≡◌, List, ◌∷◌, [], ◌++◌, Some, is_some, length, refl, sym, ap, ◌∙◌, subst, arith}
 use Rattle.kept_world.specs.Worlds.{KeptEditor, KeptWorld, next_connection, running}
 use Rattle.daemon_world.specs.Order.{IsOrderly}
 use Rattle.daemon_world.specs.Worlds.{world_of}

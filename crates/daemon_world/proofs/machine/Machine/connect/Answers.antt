@@ -1,4 +1,4 @@
-use Rattle.std.proofs.Common.{◌≡◌, ◌+◌, ◌∷◌, [], ◌++◌, Some, is_some, length, refl, sym, ap, ◌∙◌, subst}
+use Rattle.std.proofs.Common.{◌≡◌, ◌+◌, ◌∷◌, [], ◌++◌, Some, is_some, refl, sym, ap, ◌∙◌, subst}
 use Rattle.editor_client.specs.Requests.{open_request}
 use Rattle.frame_world.specs.Laws.{IsReadBack}
 use Rattle.frame_world.specs.Seats.{opened}

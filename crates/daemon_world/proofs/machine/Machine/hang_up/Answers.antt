@@ -1,4 +1,4 @@
-use Rattle.std.proofs.Common.{ap, is_some, ◌≡◌, true, subst, sym, rules, string_bytes}
+use Rattle.std.proofs.Common.{is_some, ◌≡◌, true, subst, sym, rules, string_bytes}
 use Rattle.std.proofs.lemmas.Result.{IfOk-weaker}
 use Rattle.plain_world.specs.Lines.{hung_line}
 use Rattle.kept_world.specs.Worlds.{KeptWorld, running, with_host}

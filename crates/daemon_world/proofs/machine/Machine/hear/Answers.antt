@@ -1,7 +1,6 @@
 use Rattle.std.proofs.Common.{◌≡◌, sym, ap, ◌∙◌, string_bytes, ◌++◌}
 use Rattle.kept_world.specs.Events.{KeptPlayed}
 use Rattle.kept_world.specs.Moves.{then_played}
-use Rattle.daemon_world.specs.Hearing.{ends_if}
 use Rattle.daemon_world.proofs.FedLemmas.{is_heard}
 use Rattle.daemon_world.proofs.machine.Machine.hear.Goals as goal
 
