@@ -1,2 +1,5 @@
 mod HoldingLemmas
 mod StoreLemmas
+mod IdLemmas
+mod OperationLemmas
+mod OwnLemmas

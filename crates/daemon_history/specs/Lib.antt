@@ -1,3 +1,4 @@
 pub mod Holding
 pub mod Making
 pub mod Shown
+pub mod Bounds

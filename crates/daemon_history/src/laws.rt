@@ -1,5 +1,5 @@
 //! What holds of every daemon's changes and notes. Each function has an empty body, and its contract is the law.
-ghost use Rattle.std.specs.Prelude.{◌≡◌, ℕ, List, length, Ok, Err, IsTrue};
+ghost use Rattle.std.specs.Prelude.{◌≡◌, ℕ, List, length, false, Ok, Err, IsTrue};
 ghost use Rattle.delta.specs.Cells.{Cells, base_length, IsNormal};
 ghost use Rattle.tt_base.specs.declared.ids.Actor.{Actor};
 ghost use Rattle.change_codec.specs.Change.{Change};
@@ -8,12 +8,14 @@ ghost use Rattle.journal_format.specs.declared.records.Note.{Note};
 ghost use Rattle.journal_format.specs.declared.records.Note.TheVariants.{Open};
 ghost use Rattle.journal_format.specs.declared.records.Record.{Record};
 ghost use Rattle.change_graph.specs.Answers.{IsClash};
+ghost use Rattle.change_graph.specs.History.{is_held, name_of};
 ghost use Rattle.replica_views.specs.Growth.{MayCome, IsGrown};
 ghost use Rattle.replica_views.specs.Made as views;
 ghost use Rattle.replica_views.specs.Views.{beginning};
 ghost use Rattle.replica_store.specs.Records.{AreTaken};
 ghost use Rattle.replica_store.specs.Store.{StoreView, IsStore};
 ghost use Rattle.replica_store.specs.Calls.{Making, IsMade, IsRemoved, IsNoted, IsCommitted, IsOpened};
+ghost use Rattle.daemon_history.specs.Bounds.{IsWithinBounds, IsRemovalWithinBounds};
 ghost use Rattle.daemon_history.specs.Holding.{Holding, started, IsHolding, text_at};
 ghost use Rattle.daemon_history.specs.Making.{with_change, making, removing, with_noted, opening};
 ghost use Rattle.daemon_history.specs.Shown.{shown, ChangesOne};
@@ -38,6 +40,15 @@ pub fn a_made_change_changes_one_text()
     ensures { (h after : Holding) (path : List ℕ) (d : Cells) → IsHolding h → making h path d ≡ Ok after
         → MayCome h.history (views.made h.history h.actor path d) → base_length d ≡ length (text_at h path) → IsNormal d
         → ChangesOne h path d after }
+{}
+
+/// Within bounds that every machine sets, a change that a daemon makes for a delta of the text at a path may come next, unless one is
+/// held under its name: it has an encoding, and none of its operations is refused. So may the change that removes the file there.
+pub fn own_changes_may_come()
+    ensures made { (h : Holding) (path : List ℕ) (d : Cells) → IsHolding h → IsWithinBounds h path d → base_length d ≡ length (text_at h path)
+        → is_held h.history (name_of (views.made h.history h.actor path d)) ≡ false → MayCome h.history (views.made h.history h.actor path d) }
+    ensures removed { (h : Holding) (path : List ℕ) → IsHolding h → IsRemovalWithinBounds h path
+        → is_held h.history (name_of (views.removed h.history h.actor path)) ≡ false → MayCome h.history (views.removed h.history h.actor path) }
 {}
 
 /// A store does to what its daemon holds what the definitions say: it makes, removes and notes it, or refuses with the clash. A
