@@ -1,7 +1,8 @@
-ghost use Rattle.std.specs.Prelude.{◌≡◌, true, [], is_ok, IfOk, OnOk, string_bytes};
+ghost use Rattle.std.specs.Prelude.{◌≡◌, true, [], is_ok, IfOk, IsOk, OnOk, string_bytes};
 ghost use Rattle.kept_world.specs.Moves.{IsMove, can_move};
 ghost use Rattle.plain_world.specs.Base.{script_base};
 ghost use Rattle.plain_world.specs.RawFrames.{Reader};
+ghost use Rattle.daemon_world.specs.Worlds.{takes_no_memory};
 
 use crate::machine::Machine;
 use replay_script::Move;
@@ -20,8 +21,9 @@ impl Machine {
     /// Makes a move that is possible: what is printed.
     pub(crate) fn make(&mut self, alloc: Global, moved: &Move) -> Result<String, AllocError>
         requires { can_move script_base self.old moved.now ≡ true }
-        ensures { IfOk result (λ printed. (reader : Reader)
+        ensures moved { IfOk result (λ printed. (reader : Reader)
             → IsMove script_base reader self.old moved.now (record { world = self.new; printed = string_bytes printed })) }
+        ensures quick { takes_no_memory moved.now ≡ true → IsOk result }
     {
         match moved {
             Move::Daemon(_) => quietly(alloc, self.begin_daemon(alloc)),

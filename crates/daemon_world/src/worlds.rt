@@ -1,11 +1,11 @@
-ghost use Rattle.std.specs.Prelude.{◌≡◌, ◌↔◌, ◌+◌, None, IfOk, OnOk, string_bytes};
+ghost use Rattle.std.specs.Prelude.{◌≡◌, ◌↔◌, ◌+◌, ◌<◌, ◌^◌, true, None, IfOk, OnOk, OnErr, string_bytes};
 ghost use Rattle.kept_world.specs.Laws.{Plays};
 ghost use Rattle.kept_world.specs.Tie.{Ties};
 ghost use Rattle.plain_world.specs.Base.{script_base};
 ghost use Rattle.plain_world.specs.RawFrames.{Reader};
 ghost use Rattle.plain_world.specs.Step.{played};
 ghost use Rattle.plain_world.specs.World as P;
-ghost use Rattle.daemon_world.specs.Worlds.{new_world};
+ghost use Rattle.daemon_world.specs.Worlds.{new_world, takes_no_memory};
 
 use crate::machine::{Machine, read_base};
 use file_uri::Base;
@@ -70,7 +70,7 @@ impl World {
     /// Plays one move, and gives the lines that it prints, each with its LF.
     ///
     /// A world that is tied to one of the plain machine leads to the next one there, and prints the same. Whether a move is possible is
-    /// judged before memory is asked for.
+    /// judged before memory is asked for, and the end of a connection asks for none.
     pub fn play(&mut self, alloc: Global, moved: &Move) -> Result<String, PlayEnd>
         ensures plays { (reader : Reader) (w : P.World) → Ties script_base self.old.kept w → IfOk result (λ printed.
             Plays script_base reader w moved.now (record { world = self.new.kept; printed = string_bytes printed })) }
@@ -78,6 +78,8 @@ impl World {
             → (result ≡ Err PlayEnd.NotPossible) ↔ (played script_base reader w moved.now ≡ None) }
         ensures as_before { result ≡ Err PlayEnd.NotPossible → self.new ≡ self.old }
         ensures counts { OnOk result (self.new.moves ≡ self.old.moves + 1) }
+        ensures uncounted { OnErr result (self.new.moves ≡ self.old.moves) }
+        ensures quick { takes_no_memory moved.now ≡ true → self.old.moves + 1 < 2 ^ 64 → result ≡ Err PlayEnd.Memory → ⊥ }
     {
         moves_are_alike();
         moves_are_possible_alike();

@@ -6,7 +6,8 @@ use Rattle.serde_json.specs.Data.{string}
 use Rattle.tt_base.specs.declared.edits.TextEdit.{TextEdit}
 use Rattle.rpc_message.specs.Codes.{table}
 use Rattle.rpc_message.specs.Messages.{message_in}
-use Rattle.rpc_message.specs.Methods.{method_named}
+use Rattle.name_table.specs.Rows.{number_of, word_of}
+use Rattle.rpc_message.specs.Methods.{method_named, methods}
 use Rattle.rpc_message.specs.Requests.{request}
 use Rattle.rpc_message.specs.Values.{object, version}
 use Rattle.rpc_message.specs.Written.{written}
@@ -38,6 +39,15 @@ typed = record { start = record { line = 0; character = 1 }; end = record { line
 pub edit_has_184_bytes : length (written (Edit (codes "file:///work/f") 1 (typed ∷ []))) ≡ 184
 unfolding serde_json_on_literals digits
 edit_has_184_bytes = refl
+
+pub edit_has_number_3 : number_of (codes "edit") methods ≡ Some 3
+edit_has_number_3 = refl
+
+pub save_has_no_number : number_of (codes "save") methods ≡ None
+save_has_no_number = refl
+
+pub no_method_has_number_6 : word_of 6 methods ≡ None
+no_method_has_number_6 = refl
 
 pub edit_is_a_method : method_named (codes "edit") ≡ Some method.Edit
 edit_is_a_method = refl

@@ -1,5 +1,5 @@
 -- The methods that an editor may ask for, and their names.
-use Rattle.std.specs.Prelude.{ℕ, List, map, Option, option_and_then, slice_get, codes}
+use Rattle.std.specs.Prelude.{ℕ, zero, suc, List, map, Option, None, option_and_then, slice_get, codes}
 use Rattle.std.specs.List.{enumerate_from}
 use Rattle.name_table.specs.Rows.{number_of}
 use Rattle.rpc_message.specs.declared.methods.Method.{Method}
@@ -14,10 +14,15 @@ name Edit = codes "edit"
 name Cursor = codes "cursor"
 name Shutdown = codes "shutdown"
 
--- the table of names, each with the place of its method in `METHODS` as its number
+-- the table of names: the methods are numbered from 1, in the order of `METHODS`
 abbrev pub methods : List (ℕ × List ℕ)
-methods = enumerate_from 0 (map name METHODS)
+methods = enumerate_from 1 (map name METHODS)
+
+-- the method of this number
+abbrev pub numbered : ℕ → Option Method
+numbered zero = None
+numbered (suc place) = slice_get METHODS place
 
 -- the method of this name
 abbrev pub method_named : List ℕ → Option Method
-method_named word = option_and_then (λ number. slice_get METHODS number) (number_of word methods)
+method_named word = option_and_then numbered (number_of word methods)

@@ -8,22 +8,22 @@ use name_table::{NameTable, rows};
 use serde_json::Value;
 use std::alloc::{AllocError, Global};
 
-/// What an editor may ask for: a row of the table of methods.
+/// What an editor may ask for: a row of the table of methods, with its number there.
 #[derive(Clone, Copy, Debug, PartialEq, Eq)]
 pub enum Method {
     /// `open`: a file is opened.
-    Open,
+    Open = 1,
     /// `close`: a file is closed.
-    Close,
+    Close = 2,
     /// `edit`: the text of an open file has changed.
-    Edit,
+    Edit = 3,
     /// `cursor`: something is selected in an open file.
-    Cursor,
+    Cursor = 4,
     /// `shutdown`: the daemon is to stop.
-    Shutdown,
+    Shutdown = 5,
 }
 
-/// The methods, each at the place of its number in the table.
+/// The methods, in the order of their numbers in the table.
 const METHODS: [Method; 5] = [
     Method::Open,
     Method::Close,
@@ -32,11 +32,11 @@ const METHODS: [Method; 5] = [
     Method::Shutdown,
 ];
 
-/// The table of methods.
+/// The table of methods, which are numbered from 1.
 pub fn method_table() -> NameTable<5>
     ensures { result ≡ spec.methods }
 {
-    rows! { 0 => "open", 1 => "close", 2 => "edit", 3 => "cursor", 4 => "shutdown" }
+    rows! { 1 => "open", 2 => "close", 3 => "edit", 4 => "cursor", 5 => "shutdown" }
 }
 
 impl Method {
@@ -44,9 +44,10 @@ impl Method {
     pub(crate) fn named(name: &str) -> Option<Method>
         ensures { result ≡ spec.method_named name.now }
     {
-        let number = method_table().find_word(name)? as usize;
-        if number < METHODS.len() {
-            Some(METHODS[number])
+        let number = method_table().find_word(name)?;
+        let place = number.checked_sub(1)? as usize;
+        if place < METHODS.len() {
+            Some(METHODS[place])
         } else {
             None
         }
