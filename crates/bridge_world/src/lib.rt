@@ -16,6 +16,3 @@ pub use editors::{Editor, Frame, Held, Message, Sent};
 pub use faults::MoveFault;
 pub use marks::{Cause, Kind, Mark, State, Verdict};
 pub use rooms::EditorRoom;
-
-#[cfg(test)]
-mod tests;

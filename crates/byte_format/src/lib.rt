@@ -15,6 +15,3 @@ pub use names::{read_actor, read_name, read_names, read_names_through};
 pub use numbers::{read_count, read_u16, read_u64};
 pub use texts::{read_path, read_path_text, read_str, read_text};
 pub use writers::{put_name, put_names, put_path, put_text, put_u64};
-
-#[cfg(test)]
-mod tests;

@@ -19,6 +19,3 @@ pub use faults::BadEncoding;
 pub use ops::{Op, Parent, Ref};
 pub use reading::read_change;
 pub use writing::write_change;
-
-#[cfg(test)]
-mod tests;

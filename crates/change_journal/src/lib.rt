@@ -15,6 +15,3 @@ mod writes;
 pub use faults::{AppendFault, JournalFault, NotOpened};
 pub use journal_format::{Known, Note, Record, keeps_actor_first, record_kinds};
 pub use journals::Journal;
-
-#[cfg(test)]
-mod tests;

@@ -18,6 +18,3 @@ pub use link_edits::{LinkEdit, Opened, open_link, take_edit};
 pub use open_files::OpenFiles;
 pub use sending::{queue_messages, send, send_all};
 pub use stops::Stop;
-
-#[cfg(test)]
-mod tests;

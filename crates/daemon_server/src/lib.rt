@@ -11,6 +11,3 @@ mod messages;
 mod steps;
 
 pub use daemons::Daemon;
-
-#[cfg(test)]
-mod tests;

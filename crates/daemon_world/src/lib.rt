@@ -16,6 +16,3 @@ mod typing;
 mod worlds;
 
 pub use worlds::{PlayEnd, World};
-
-#[cfg(test)]
-mod tests;

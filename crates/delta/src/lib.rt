@@ -22,6 +22,3 @@ pub use composition::{compose, replace_all};
 pub use deltas::Delta;
 pub use readers::{NextStep, StepReader};
 pub use steps::DeltaStep;
-
-#[cfg(test)]
-mod tests;

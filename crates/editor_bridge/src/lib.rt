@@ -13,6 +13,3 @@ mod frames;
 pub use bridges::{Bridge, Taken};
 pub use faults::BridgeFault;
 pub use frames::BridgeFrame;
-
-#[cfg(test)]
-mod tests;

@@ -15,6 +15,3 @@ pub use clients::Client;
 pub use faults::TypeFault;
 pub use notes::HeardNote;
 pub use states::ClientState;
-
-#[cfg(test)]
-mod tests;

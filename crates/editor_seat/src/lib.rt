@@ -12,6 +12,3 @@ mod seats;
 pub use faults::DeliverFault;
 pub use lines::write_note;
 pub use seats::EditorSeat;
-
-#[cfg(test)]
-mod tests;

@@ -15,6 +15,3 @@ pub use bases::{Base, MAX_BASE_BYTES};
 pub use faults::UriFault;
 pub use laws::{path_comes_back, plain_reading_agrees};
 pub use paths::{path_of, uri_of};
-
-#[cfg(test)]
-mod tests;

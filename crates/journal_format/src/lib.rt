@@ -14,6 +14,3 @@ mod writing;
 pub use groups::{BadGroups, Contents, MARK, keeps_actor_first, read_groups};
 pub use records::{Known, Note, Record, record_kinds};
 pub use writing::{CLOSED_GATE, write_group};
-
-#[cfg(test)]
-mod tests;

@@ -15,6 +15,3 @@ pub use mem_disks::MemDisk;
 pub use sinks::{MemSink, SureSink};
 pub use sources::{MemSource, SureSource};
 pub use sure_disks::SureDisk;
-
-#[cfg(test)]
-mod tests;

@@ -13,6 +13,3 @@ mod run;
 
 pub use faults::ReplayFault;
 pub use run::{ReplayEnd, replay_run};
-
-#[cfg(test)]
-mod tests;

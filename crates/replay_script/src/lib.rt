@@ -22,6 +22,3 @@ pub use moves::Move;
 pub use outside::Mode;
 pub use written::{write_path, write_text};
 pub use written_lines::write_line;
-
-#[cfg(test)]
-mod tests;

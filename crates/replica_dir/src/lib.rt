@@ -9,6 +9,3 @@ mod id_sets;
 pub mod laws;
 
 pub use directories::Directory;
-
-#[cfg(test)]
-mod tests;

@@ -15,6 +15,3 @@ mod texts;
 
 pub use effects::Effect;
 pub use replicas::{Added, Replica, indices_fit};
-
-#[cfg(test)]
-mod tests;

@@ -18,6 +18,3 @@ pub use headers::HEADER_LIMIT;
 pub use pieces::{StreamRead, read_pieces};
 pub use readers::FrameReader;
 pub use written::write_frame;
-
-#[cfg(test)]
-mod tests;

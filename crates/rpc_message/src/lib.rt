@@ -34,6 +34,3 @@ pub use reading::read_message;
 pub use refusals::Refusal;
 pub use replies::read_reply;
 pub use requests::write_request;
-
-#[cfg(test)]
-mod tests;

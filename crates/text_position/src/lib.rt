@@ -15,6 +15,3 @@ pub use delta_edits::to_edits;
 pub use edit_lists::from_edits;
 pub use faults::{BadPosition, EditsFault};
 pub use places::{offset_of, position_of};
-
-#[cfg(test)]
-mod tests;

@@ -10,6 +10,3 @@ mod transforms;
 
 pub use lists::{Passed, pass_list};
 pub use transforms::{pass_daemon, pass_editor};
-
-#[cfg(test)]
-mod tests;
