@@ -12,12 +12,17 @@ use Rattle.rpc_message.specs.declared.messages.MessageId.TheVariants.{Number}
 use Rattle.rpc_message.specs.declared.messages.ToEditor.{ToEditor}
 use Rattle.rpc_message.specs.declared.messages.ToEditor.TheVariants as to_editor
 use Rattle.rpc_message.specs.declared.refusals.Refusal.TheVariants as refusal
+use Rattle.daemon_core.specs.declared.TheConstants.{LONGEST_TEXT}
 use Rattle.daemon_core.specs.declared.events.Output.{Output}
 use Rattle.daemon_core.specs.declared.events.Output.TheVariants.{Shutdown}
 use Rattle.daemon_core.specs.History.{view_at}
 use Rattle.daemon_core.specs.Outputs.{Served, served, send}
 use Rattle.daemon_core.specs.Serving.{on_message, or_refusal}
 use Rattle.daemon_core.specs.State.{State, new_state}
+
+-- the limit on the length of texts
+pub longest_text : LONGEST_TEXT ≡ 1048576
+longest_text = refl
 
 abbrev work : BaseView
 work = record { text = codes "file:///work/"; path = codes "/work/" }

@@ -4,8 +4,12 @@ use Rattle.std.specs.Fmt.{digits}
 use Rattle.std.specs.Str.{is_utf8, chars}
 use Rattle.std.specs.Char.{encode_utf8}
 use Rattle.plain_world.specs.RawFrames.{Reader}
-use Rattle.replay.specs.Script.{run_over}
+use Rattle.replay.specs.Script.{run_over, most_bytes}
 use Rattle.replay.specs.declared.faults.ReplayFault.TheVariants.{NotAMove, NotPossible}
+
+-- the limit on what is read of a script
+most_read : most_bytes ≡ 1099511627776
+most_read = refl
 
 nothing_played : (reader : Reader) → (run_over reader []).printed ≡ []
 nothing_played reader = refl

@@ -1,6 +1,5 @@
 -- Reading the value of a message gives that message.
-use Rattle.std.proofs.Common.{◌≡◌, ℕ, pos, negsuc, false, List, [], ◌∷◌, Option, Some, Ok, refl, map, ap, ap₂, sym, ◌∙◌, arith, ltb-true}
-use Rattle.std.proofs.lemmas.Str.{chars-encodes}
+use Rattle.std.proofs.Common.{◌≡◌, ℕ, pos, negsuc, false, List, [], ◌∷◌, Option, Some, Ok, refl, map, option_map, ap, ap₂, sym, ◌∙◌, arith, ltb-true}
 use Rattle.std.specs.List.{AllByRecursion}
 use Rattle.std.specs.Result.{result_ok}
 use Rattle.hex.proofs.HexLemmas.{decode_of-encode_lower}
@@ -18,6 +17,7 @@ use Rattle.rpc_message.specs.Messages.{id_form, message_in}
 use Rattle.rpc_message.specs.Replies.{IsEdit, IsRefusal, IsToEditor}
 use Rattle.rpc_message.specs.Requests.{request, is_response}
 use Rattle.rpc_message.specs.Values.{id, edit, range, items_of}
+use Rattle.rpc_message.proofs.CharacterLemmas.{characters_again}
 use Rattle.rpc_message.specs.declared.causes.UriCause.TheVariants.{NotAUri, NotFile, HasHost, OutsideBase, NotUtf8, TooLong, NulByte, Absolute, Empty, DotPart, Reserved, TooDeep}
 use Rattle.rpc_message.specs.declared.members.Member.TheVariants.{Params, Uri, Content, Revision, Delta, Ranges}
 use Rattle.rpc_message.specs.declared.messages.FromEditor.{FromEditor}
@@ -31,7 +31,7 @@ use Rattle.rpc_message.specs.declared.refusals.Refusal.TheVariants.{ParseError, 
 use Rattle.rpc_message.specs.declared.refusals.Refusal.TheVariants.{BadUri, BadPosition, BadRevision, TextTooLong, Clash, BackwardRange}
 
 id_again : (i : MessageId) → IsId i → id_form (id i) ≡ Some i
-id_again (Words characters) is = ap (λ t. Some (Words t)) (chars-encodes characters is)
+id_again (Words cs) is = ap (option_map Words) (characters_again cs is)
 id_again (Below (pos n)) is = absurd (omega (arith, ltb-true n 0 is))
 id_again (Below (negsuc n)) is = refl
 id_again (Number n) is = refl
@@ -71,7 +71,7 @@ refusal_again (Clash given held) is = rw (bytes_again given is.0, bytes_again he
 refusal_again (BackwardRange edit) is = refl
 
 edit_again : (e : TextEdit) → IsEdit e → form.edit (edit e) ≡ Some e
-edit_again e is = ap (λ t. Some (record e { replacement = t })) (chars-encodes e.replacement is)
+edit_again e is = ap (λ found. found >>= λ t. Some (record e { replacement = t })) (characters_again e.replacement is)
 
 edits_again : (es : List TextEdit) → AllByRecursion IsEdit es → items form.edit (items_of (map edit es)) ≡ Some es
 edits_again [] is = refl
@@ -90,7 +90,7 @@ candidate_again (Edit uri revision es) is = rw (edits_again es is) refl
 
 -- the value of a request is read as that request
 pub request_again : (i : ℕ) (m : FromEditor) → is_response m ≡ false → HasCharacters m → message_in (Some (request i m)) ≡ Ok (record { id = Some (Number i); message = m })
-request_again i (asks.Open uri content) asked is = rw (chars-encodes content is) refl
+request_again i (asks.Open uri content) asked is = rw (characters_again content is) refl
 request_again i (asks.Close uri) asked is = refl
 request_again i (asks.Edit uri revision es) asked is = rw (edits_again es is) refl
 request_again i (asks.Cursor uri rs) asked is = rw (ranges_again rs) refl

@@ -3,3 +3,4 @@ pub mod WrittenLemmas
 pub mod ValueLemmas
 pub mod AgainLemmas
 pub mod Rows
+mod CharacterLemmas

@@ -1,6 +1,6 @@
 -- The forms that a member of a message may have.
-use Rattle.std.specs.Prelude.{ℕ, List, [], ◌∷◌, Option, Some, None, option_map, option_and_then, codes}
-use Rattle.std.specs.Str.{chars}
+use Rattle.std.specs.Prelude.{ℕ, List, [], ◌∷◌, Option, Some, None, option_and_then, codes, if◌then◌else◌}
+use Rattle.std.specs.Str.{chars, is_utf8}
 use Rattle.std.specs.Result.{result_ok}
 use Rattle.hex.specs.Hex.{decode_of}
 use Rattle.serde_json.specs.Data.{Data, Items, no_items, item}
@@ -16,9 +16,13 @@ abbrev pub ◌>>=◌ : {A B : Type 0} → Option A → (A → Option B) → Opti
 (Some x) >>= f = f x
 None >>= f = None
 
+-- the characters that the bytes of UTF-8 spell; a string of JSON has others never (RFC 8259, section 8.1)
+abbrev pub characters : List ℕ → Option (List ℕ)
+characters bytes = if is_utf8 bytes then Some (chars bytes) else None
+
 -- a string, as its characters
 abbrev pub text : Data → Option (List ℕ)
-text d = option_map chars (as_str d)
+text d = option_and_then characters (as_str d)
 
 -- the bytes that pairs of hexadecimal digits are (RFC 4648, section 8)
 abbrev pub decoded : List ℕ → Option (List ℕ)

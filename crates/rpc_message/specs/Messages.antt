@@ -1,9 +1,10 @@
 -- The message that a body is, with its id, or the fault, with the id to answer (JSON-RPC 2.0).
-use Rattle.std.specs.Prelude.{ℕ, pos, int_lt, Bool, ◌&&◌, ◌||◌, not, false, List, Option, Some, None, Result, Ok, Err, codes, is_some, unwrap_or, if◌then◌else◌}
-use Rattle.std.specs.Str.{chars, bytes_eq}
+use Rattle.std.specs.Prelude.{ℕ, pos, int_lt, Bool, ◌&&◌, ◌||◌, not, false, List, Option, Some, None, Result, Ok, Err, codes, is_some, unwrap_or, option_map, if◌then◌else◌}
+use Rattle.std.specs.Str.{bytes_eq}
 use Rattle.serde_json.specs.Data as json
 use Rattle.serde_json.specs.Data.{Data}
 use Rattle.serde_json.specs.Find.{get, as_str, as_object}
+use Rattle.rpc_message.specs.Forms.{characters}
 use Rattle.rpc_message.specs.Json.{json_of, member, has}
 use Rattle.rpc_message.specs.Methods.{method_named}
 use Rattle.rpc_message.specs.Params.{called}
@@ -23,7 +24,7 @@ use Rattle.rpc_message.specs.declared.methods.Method.{Method}
 -- whole one, and each that it reads as negative is below 0
 abbrev pub id_form : Data → Option MessageId
 id_form json.null = Some Null
-id_form (json.string s) = Some (Words (chars s))
+id_form (json.string s) = option_map Words (characters s)
 id_form (json.number (json.unsigned n)) = Some (Number n)
 id_form (json.number (json.negative z)) = if int_lt z (pos 0) then Some (Below z) else None
 id_form _ = None
