@@ -1,0 +1,6 @@
+mod Steps
+mod DeltaScalars
+mod ComposedScalars
+mod FormScalars
+mod MessageScalars
+mod EditLemmas
