@@ -1,5 +1,5 @@
-mod HoldingLemmas
+pub mod HoldingLemmas
 mod StoreLemmas
 mod IdLemmas
 mod OperationLemmas
-mod OwnLemmas
+pub mod OwnLemmas

@@ -93,7 +93,7 @@ more_scalars index text so_far [] d is all same = subst InsertsScalars (ok_is so
 more_scalars index text so_far (edit ∷ edits) d is all same =
     then_ended (delta_of_edit index (applied so_far text) edit) (λ e. with_edits (index + 1) text (composed so_far e) edits) d (InsertsScalars d)
     (λ e found rest. more_scalars (index + 1) text (composed so_far e) edits d
-      (composed_scalars so_far e is (edit_scalars index (applied so_far text) edit e all.0 found)) all.1 rest) same
+    (composed_scalars so_far e is (edit_scalars index (applied so_far text) edit e all.0 found)) all.1 rest) same
 
 pub edits_scalars : (text : List ℕ) (edits : List TextEdit) (d : Cells) → AllByRecursion ReplacesByScalars edits → delta_of_edits text edits ≡ Ok d → InsertsScalars d
 edits_scalars text edits d all is = more_scalars 0 text (keeping (length text)) edits d (covers_scalars true (length text) nothing refl) all is

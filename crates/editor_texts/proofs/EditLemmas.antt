@@ -1,5 +1,5 @@
--- The normal form of what editors edit, and the paths that they name.
-use Rattle.std.proofs.Common.{◌≡◌, ℕ, ◌+◌, Bool, true, false, ◌==◌, List, [], ◌∷◌, length, drop, if◌then◌else◌, Option, Some, None, Ok, Err, refl, subst}
+-- The normal form and the base of what editors edit, and the paths that they name.
+use Rattle.std.proofs.Common.{◌≡◌, ℕ, ◌+◌, Bool, true, false, ◌==◌, List, [], ◌∷◌, length, drop, if◌then◌else◌, Option, Some, None, Ok, Err, refl, subst, sym, ap, ◌∙◌, arith}
 use Rattle.std.specs.Str.{is_utf8}
 use Rattle.std.specs.List.{starts_with}
 use Rattle.std.proofs.lemmas.Str.{IsUtf8-from_is_utf8}
@@ -7,8 +7,9 @@ use Rattle.tt_base.specs.Path.{path_fault}
 use Rattle.tt_base.specs.declared.edits.TextEdit.{TextEdit}
 use Rattle.tt_base.specs.declared.paths.PathFault.{PathFault}
 use Rattle.change_codec.specs.WellFormed.{IsPath}
-use Rattle.delta.specs.Cells.{Cells, IsNormal, keeping, nothing, applied}
-use Rattle.delta.proofs.ComposedLemmas.{IsNormal-composed}
+use Rattle.delta.specs.Cells.{Cells, base_length, IsNormal, keeping, nothing, applied}
+use Rattle.delta.proofs.CellsLemmas.{base_length-covers}
+use Rattle.delta.proofs.ComposedLemmas.{IsNormal-composed, base_length-composed}
 use Rattle.delta.proofs.StepsLemmas.{IsNormal-kept}
 use Rattle.delta.specs.Marks.{composed}
 use Rattle.editor_bridge.specs.Link.{Link, carried_edit, unshown}
@@ -40,6 +41,18 @@ past_normal d (q ∷ list) is = past_normal (after_editor d q) list (IsNormal-af
 
 pub carried_edit_normal : (seen : ℕ) (d : Cells) (link : Link) → IsNormal d → IsNormal (carried_edit seen d link)
 carried_edit_normal seen d link is = past_normal d (unshown seen link) is
+
+-- the delta of edits is for their text
+more_fits : (index : ℕ) (text : List ℕ) (so_far : Cells) (edits : List TextEdit) (d : Cells) → with_edits index text so_far edits ≡ Ok d
+    → base_length d ≡ base_length so_far
+more_fits index text so_far [] d same = ap base_length (sym (ok_is so_far d same))
+more_fits index text so_far (edit ∷ edits) d same =
+    then_ended (delta_of_edit index (applied so_far text) edit) (λ e. with_edits (index + 1) text (composed so_far e) edits) d (base_length d ≡ base_length so_far)
+    (λ e found rest. more_fits (index + 1) text (composed so_far e) edits d rest ∙ base_length-composed so_far e) same
+
+pub edits_fit : (text : List ℕ) (edits : List TextEdit) (d : Cells) → delta_of_edits text edits ≡ Ok d → base_length d ≡ length text
+edits_fit text edits d is =
+    more_fits 0 text (keeping (length text)) edits d is ∙ omega (arith, base_length-covers true (length text) nothing)
 
 -- ---- paths
 

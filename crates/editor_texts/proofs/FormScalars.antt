@@ -60,4 +60,3 @@ items_scalars (item d ds) edits is =
 pub edits_scalars : (d : Data) (edits : List TextEdit) → form.array form.edit d ≡ Some edits → AllByRecursion ReplacesByScalars edits
 edits_scalars d edits is =
     let items = found_then (as_array d) (form.items form.edit) edits is in items_scalars items.value edits items.rest
-

@@ -1,6 +1,6 @@
 mod Steps
-mod DeltaScalars
-mod ComposedScalars
+pub mod DeltaScalars
+pub mod ComposedScalars
 mod FormScalars
-mod MessageScalars
-mod EditLemmas
+pub mod MessageScalars
+pub mod EditLemmas

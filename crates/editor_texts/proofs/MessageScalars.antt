@@ -62,9 +62,9 @@ open_says d asked is =
     let others = gave (read_rows (content_row ∷ []) params.value) (λ rest. Ok (uri.value, rest)) members.value uri.rest in
     let content = gave (wanted Content form.text params.value) (λ first. Ok (first, tt)) others.value others.is in
     let same : message.Open uri.value content.value ≡ asked =
-        ap (λ rest. made Open (uri.value, rest)) (ok_is (content.value, tt) others.value content.rest)
-        ∙ ap (made Open) (ok_is (uri.value, others.value) members.value others.rest)
-        ∙ ok_is (made Open members.value) asked members.rest in
+    ap (λ rest. made Open (uri.value, rest)) (ok_is (content.value, tt) others.value content.rest)
+    ∙ ap (made Open) (ok_is (uri.value, others.value) members.value others.rest)
+    ∙ ok_is (made Open members.value) asked members.rest in
     let string = wanted_is Content form.text params.value content.value content.is in
     subst SaysScalars same (text_scalars string.value content.value string.rest)
 
@@ -78,10 +78,10 @@ edit_says d asked is =
     let last = gave (read_rows (delta_row ∷ []) params.value) (λ rest. Ok (revision.value, rest)) others.value revision.rest in
     let edits = gave (wanted Delta (form.array form.edit) params.value) (λ first. Ok (first, tt)) last.value last.is in
     let same : message.Edit uri.value revision.value edits.value ≡ asked =
-        ap (λ rest. made Edit (uri.value, (revision.value, rest))) (ok_is (edits.value, tt) last.value edits.rest)
-        ∙ ap (λ rest. made Edit (uri.value, rest)) (ok_is (revision.value, last.value) others.value last.rest)
-        ∙ ap (made Edit) (ok_is (uri.value, others.value) members.value others.rest)
-        ∙ ok_is (made Edit members.value) asked members.rest in
+    ap (λ rest. made Edit (uri.value, (revision.value, rest))) (ok_is (edits.value, tt) last.value edits.rest)
+    ∙ ap (λ rest. made Edit (uri.value, rest)) (ok_is (revision.value, last.value) others.value last.rest)
+    ∙ ap (made Edit) (ok_is (uri.value, others.value) members.value others.rest)
+    ∙ ok_is (made Edit members.value) asked members.rest in
     let array = wanted_is Delta (form.array form.edit) params.value edits.value edits.is in
     subst SaysScalars same (edits_scalars array.value edits.value array.rest)
 

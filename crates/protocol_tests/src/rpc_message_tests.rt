@@ -1,6 +1,6 @@
 use rpc_message::{
-    Cause, FromEditor, Incoming, MessageFault, MessageId, Refusal, ToEditor, read_message,
-    read_reply, write_message, write_request,
+    Cause, FromEditor, Incoming, Member, MessageFault, MessageId, Refusal, ToEditor, method_table,
+    read_message, read_reply, round_trips, write_message, write_request,
 };
 use std::alloc::{AllocError, Global};
 use std::process::Abort;
@@ -569,6 +569,7 @@ fn want_of_memory_has_a_text(rt: HostRuntime) -> Result<(), Fail> {
 
 #[test]
 fn methods_are_found_by_name(rt: HostRuntime) {
-    assert!(rt; method_table().find_word("edit") == Some(2));
+    assert!(rt; method_table().find_word("edit") == Some(3));
     assert!(rt; method_table().find_word("save").is_none());
+    assert!(rt; method_table().find_number(6).is_none());
 }

@@ -29,4 +29,4 @@ returns c =
     let has : has_down (editor_of k c.args.e) ≡ true = subst (λ (v : KeptWorld). has_down (editor_of v c.args.e) ≡ true) (sym c.self.view_is) c.requires in
     let at : editor_of k c.args.e ≡ Some x = sits_at k c.args.e x (down_sits (editor_of k c.args.e) has) c.index_mut-editor.ensures.value in
     subst (λ (v : KeptWorld). IsDown v c.args.e (record { world = with_editor k c.args.e c.deliver_to.new.editor; printed = string_bytes c.in_ok-line.line })) c.self.view_is
-    (down_made k c.args.e x c.deliver_to.new.editor c.in_ok-note.note (string_bytes c.in_ok-line.line) at c.in_ok-note.ensures.rest c.in_ok-note.ensures.delivered c.in_ok-line.ensures)
+    (down_made k c.args.e x c.deliver_to.new.editor c.in_ok-note.note (string_bytes c.in_ok-line.line) at c.in_ok-note.ensures.rest c.in_ok-note.ensures.delivered c.in_ok-line.ensures.line)

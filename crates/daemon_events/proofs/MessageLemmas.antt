@@ -1,0 +1,296 @@
+-- Whatever a message comes to, a daemon goes on to serve.
+use Rattle.std.proofs.Common.{◌≡◌, ℕ, ◌-◌, ◌<◌, ◌^◌, Bool, true, false, List, [], length, Option, Some, None, Result, Ok, Err, nat_lt, nat_le, ◌||◌, refl, sym, ap, ◌∙◌, subst, arith}
+use Rattle.std.specs.List.{AllByRecursion}
+use Rattle.std.specs.Option.{unwrap_or}
+use Rattle.std.specs.Prelude.{if◌then◌else◌}
+use Rattle.std.specs.Str.{bytes_eq, all_scalars}
+use Rattle.std.proofs.lemmas.Bool.{ltb-false}
+use Rattle.std.proofs.lemmas.Bool.Decides.{nat_tests}
+use Rattle.std.proofs.lemmas.Slice.Eq.{bytes_eq-Decides}
+use Rattle.tt_base.specs.declared.edits.TextEdit.{TextEdit}
+use Rattle.change_codec.specs.WellFormed.{IsPath}
+use Rattle.delta.specs.Cells.{Cells, base_length, applied, inserting, inserts, deleting, IsNormal}
+use Rattle.delta.specs.Cells as cells
+use Rattle.delta.proofs.ApplyLemmas.{applied-replacing_all}
+use Rattle.delta.proofs.CellsLemmas.{base_length-covers, base_length-inserts}
+use Rattle.transform.specs.Carried.{IsChain, chain_end}
+use Rattle.transform.proofs.ChainLemmas.{applied_all-take-drop, length-applied_all}
+use Rattle.transform.proofs.MergedLemmas.{base_length-past_list}
+use Rattle.text_position.specs.Edits.{delta_of_edits}
+use Rattle.text_position.specs.declared.faults.EditsFault.{EditsFault}
+use Rattle.editor_bridge.specs.Faults.{revision_fault}
+use Rattle.editor_bridge.specs.Link.{Link, issued, daemon_text, editor_text, unshown, with_edit, carried_edit, first_deltas, replacement_unless}
+use Rattle.editor_bridge.specs.declared.faults.BridgeFault.{BridgeFault}
+use Rattle.editor_texts.specs.Scalars.{ReplacesByScalars, SaysScalars}
+use Rattle.editor_texts.proofs.ComposedScalars.{edits_scalars}
+use Rattle.editor_texts.proofs.DeltaScalars.{carried_edit_scalars}
+use Rattle.editor_texts.proofs.EditLemmas.{edits_normal, edits_fit, carried_edit_normal, path_named}
+use Rattle.file_uri.specs.PathOf.{path_of}
+use Rattle.file_uri.specs.declared.faults.UriFault.{UriFault}
+use Rattle.rpc_message.specs.declared.messages.FromEditor.{FromEditor}
+use Rattle.rpc_message.specs.declared.messages.FromEditor.TheVariants.{Open, Close, Edit, Cursor, Shutdown, Response}
+use Rattle.rpc_message.specs.declared.refusals.Refusal.TheVariants.{TextTooLong}
+use Rattle.daemon_core.specs.declared.TheConstants.{LONGEST_TEXT}
+use Rattle.daemon_core.specs.Outcome.{LinkEvent, Stays, Opened, Taken, Gone, Success, opened_link, own_links}
+use Rattle.daemon_core.specs.Refusing.{Refused, ◌>>=◌, unless_bad_uri, open_link, no_link, unless_bad_revision, text_shown, unless_bad_edits, may_grow}
+use Rattle.daemon_core.proofs.FileLemmas.{is_path_itself}
+use Rattle.daemon_core.proofs.LinkLemmas.{MayTake, chain_left}
+use Rattle.daemon_core.proofs.MessageLemmas.{IsKnown}
+use Rattle.daemon_history.specs.Bounds.{InsertsScalars}
+use Rattle.daemon_history.specs.Holding.{Holding, view_at, text_at, held}
+use Rattle.daemon_history.specs.Making as history
+use Rattle.daemon_history.specs.Making.{Clash, making}
+use Rattle.daemon_events.specs.Laws.{IsLinked}
+use Rattle.daemon_events.specs.Outcome.{answers}
+use Rattle.daemon_events.specs.Serving.{unless_clash, changed, with_change, opening, on_open, on_edit, on_close, on_message, or_refusal}
+use Rattle.daemon_events.specs.State.{State, links_of, link_of}
+use Rattle.daemon_events.proofs.HoldingLemmas.{IsSteady, ChangesText, KeepsTexts, CanChange, keeps_all, read_text, opening_keeps, opening_steady, opening_changes, made_changes, made_steady}
+use Rattle.daemon_events.proofs.LinkLemmas.{linked_elsewhere, linked_took, linked_kept}
+use Rattle.daemon_events.proofs.OpenLemmas.{gone_open, new_open, changed_open}
+use Rattle.daemon_events.proofs.StepLemmas.{AllLinked, IsSound, Made, quiet_sound, stays_sound}
+
+-- what follows an open at once leads from its content to the daemon's text
+opened_here : (h : Holding) (path content view : List ℕ) → view ≡ text_at h path → IsLinked h path (opened_link content (first_deltas content view))
+opened_here h path content view is = by (bytes_eq content view) refl where
+  by : (b : Bool) → bytes_eq content view ≡ b → IsLinked h path (opened_link content (replacement_unless b content view))
+  by true same = record {
+    text = (bytes_eq-Decides content view).0 same ∙ is;
+    chain = tt;
+    issued = omega arith;
+    taken = omega arith;
+  }
+  by false differs = record {
+    text = applied-replacing_all view (length content) content refl ∙ is;
+    chain = (omega (arith, base_length-inserts view (deleting (length content)), base_length-covers false (length content) cells.nothing), tt);
+    issued = omega arith;
+    taken = omega arith;
+  }
+
+known_revision : (l : Link) (seen : ℕ) → revision_fault seen l ≡ None → IsKnown l seen
+known_revision l seen e = by (nat_lt (issued l) seen) refl (nat_lt seen l.confirmed) refl e where
+  by : (a : Bool) → nat_lt (issued l) seen ≡ a → (b : Bool) → nat_lt seen l.confirmed ≡ b → revision_fault seen l ≡ None → IsKnown l seen
+  by false ahead false back e = record { confirmed = ltb-false seen l.confirmed back; given = ltb-false (issued l) seen ahead }
+  by true ahead b back e = cc
+  by false ahead true back e = cc
+
+-- what an edit is in the daemon's text is for that text
+carried_fits : (l : Link) (seen : ℕ) (p : Cells) → IsChain (length l.base) l.unconfirmed → MayTake l seen p
+    → base_length (carried_edit seen p l) ≡ length (daemon_text l)
+carried_fits l seen p chain can =
+    let shown : List ℕ = editor_text seen l in
+    let left : IsChain (base_length p) (unshown seen l) = chain_left l seen p chain can in
+    base_length-past_list p (unshown seen l) left
+    ∙ ap (λ k. chain_end k (unshown seen l)) can.fits
+    ∙ sym (length-applied_all (unshown seen l) shown (subst (λ k. IsChain k (unshown seen l)) can.fits left))
+    ∙ ap length (applied_all-take-drop (seen - l.confirmed) l.unconfirmed l.base)
+
+-- a text that may grow so is within the bound of every text
+grown_short : (before after : ℕ) → before < 2 ^ 62 → may_grow before after ≡ true → after < 2 ^ 62
+grown_short before after short grows =
+    by (nat_le after LONGEST_TEXT) refl (nat_le after before) refl grows where
+      by : (a : Bool) → nat_le after LONGEST_TEXT ≡ a → (b : Bool) → nat_le after before ≡ b → (a || b) ≡ true → after < 2 ^ 62
+      by true limit b smaller grows = grind (arith, nat_tests)
+      by false limit true smaller grows = grind (arith, nat_tests)
+      by false limit false smaller grows = cc
+
+-- ---- the messages, each through its refusals in their order
+
+module _ (s : State) (n : ℕ) (steady : IsSteady s.holding) (few : held s.holding < 2 ^ 63) (h : AllLinked s.holding (links_of s n)) where
+  refused_sound : (refused : Refused) → AllLinked s.holding (own_links refused.own (links_of s n)) → IsSound s n (or_refusal s (Err refused))
+  refused_sound refused own = quiet_sound s n (or_refusal s (Err refused)) (keeps_all s.holding) refl steady own
+
+  -- a delta that a change may be made for, where the text does not grow too long
+  record CanEdit (path : List ℕ) (d : Cells) : Type 0 where
+    path_is : IsPath path
+    fits : base_length d ≡ length (text_at s.holding path)
+    normal : IsNormal d
+    scalars : InsertsScalars d
+
+  -- one change, or that the text would be too long, or that another change has its name
+  changed_sound : (path : List ℕ) (d : Cells) (own if_refused : LinkEvent) → CanEdit path d → (next : Holding → Holding)
+      → ((after : Holding) → ChangesText s.holding path d after → ChangesText s.holding path d (next after))
+      → ((after : Holding) → IsSteady after → IsSteady (next after))
+      → ((after : Holding) → ChangesText s.holding path d after → AllLinked after (own_links own (links_of s n)))
+      → AllLinked s.holding (own_links if_refused (links_of s n))
+      → IsSound s n (or_refusal s (changed s path d if_refused >>= λ after. Ok (with_change s path d (next after) own)))
+  changed_sound path d own if_refused can next changes_on steady_on taken refused =
+      by (may_grow (length (text_at s.holding path)) (length (applied d (text_at s.holding path)))) refl where
+        made : (r : Result Holding Clash) → making s.holding path d ≡ r → CanChange s.holding path d
+            → IsSound s n (or_refusal s (unless_clash if_refused r >>= λ after. Ok (with_change s path d (next after) own)))
+        made (Err clash) is may = refused_sound _ refused
+        made (Ok after) is may =
+            let changes : ChangesText s.holding path d (next after) = changes_on after (made_changes s.holding after path d may is) in
+            record {
+              steady = steady_on after (made_steady s.holding after path d may is);
+              own = taken (next after) changes;
+              change = Made path d can.fits changes refl;
+            }
+
+        by : (b : Bool) → may_grow (length (text_at s.holding path)) (length (applied d (text_at s.holding path))) ≡ b
+            → IsSound s n
+            (or_refusal s
+            ((if b then unless_clash if_refused (making s.holding path d)
+            else Err (record { refusal = TextTooLong (length (applied d (text_at s.holding path))); own = if_refused }))
+            >>= λ after. Ok (with_change s path d (next after) own)))
+        by false grows = refused_sound _ refused
+        by true grows =
+            made (making s.holding path d) refl
+            (record {
+              steady = steady;
+              few = few;
+              path_is = can.path_is;
+              fits = can.fits;
+              normal = can.normal;
+              scalars = can.scalars;
+              short = grown_short (length (text_at s.holding path)) (length (applied d (text_at s.holding path))) (steady.short path) grows;
+            })
+
+  -- a file is opened, by the text that it has or as a new one
+  opening_sound : (path content : List ℕ) → IsPath path → all_scalars content ≡ true
+      → IsSound s n (or_refusal s (opening s path content (view_at s.holding path)))
+  opening_sound path content path_is scalars = by_view (view_at s.holding path) refl where
+    shown : (view : Option (List ℕ)) → view_at s.holding path ≡ view → text_at s.holding path ≡ unwrap_or view []
+    shown view is = read_text s.holding path ∙ ap (λ (v : Option (List ℕ)). unwrap_or v []) is
+
+    by_view : (view : Option (List ℕ)) → view_at s.holding path ≡ view → IsSound s n (or_refusal s (opening s path content view))
+    by_view (Some view) is =
+        let kept : KeepsTexts s.holding (history.opening s.holding path) = opening_keeps s.holding path in
+        quiet_sound s n _ kept refl (opening_steady s.holding path steady)
+        (new_open (IsLinked (history.opening s.holding path)) path (opened_link content (first_deltas content view)) (links_of s n)
+        (linked_kept s.holding (history.opening s.holding path) kept path _
+        (opened_here s.holding path content view (sym (shown (Some view) is))))
+        (λ other link apart found. linked_kept s.holding (history.opening s.holding path) kept other link (h other link found)))
+    by_view None is =
+        let empty : text_at s.holding path ≡ [] = shown None is in
+        changed_sound path (inserting content) (Opened path content []) Stays
+        (record { path_is = path_is; fits = sym (ap length empty); normal = tt; scalars = scalars })
+        (λ after. history.opening after path)
+        (λ after changes. opening_changes s.holding path (inserting content) after changes)
+        (λ after is_steady. opening_steady after path is_steady)
+        (λ after changes. new_open (IsLinked after) path (opened_link content []) (links_of s n)
+        (record {
+          text = sym (changes.text ∙ ap (applied (inserting content)) empty);
+          chain = tt;
+          issued = omega arith;
+          taken = omega arith;
+        })
+        (λ other link apart found. linked_elsewhere s.holding path (inserting content) after changes other link (h other link found) apart))
+        h
+
+  open_sound : (uri content : List ℕ) → all_scalars content ≡ true → IsSound s n (or_refusal s (on_open s n uri content))
+  open_sound uri content scalars = by_path (path_of s.base uri) refl where
+    by_link : (path : List ℕ) → IsPath path → (link : Option Link)
+        → IsSound s n (or_refusal s (no_link link >>= λ free. opening s path content (view_at s.holding path)))
+    by_link path path_is (Some link) = refused_sound _ h
+    by_link path path_is None = opening_sound path content path_is scalars
+
+    by_path : (r : Result (List ℕ) UriFault) → path_of s.base uri ≡ r
+        → IsSound s n
+        (or_refusal s
+        (unless_bad_uri r >>= λ path. no_link (link_of s n path) >>= λ free. opening s path content (view_at s.holding path)))
+    by_path (Err fault) is = refused_sound _ h
+    by_path (Ok path) is = by_link path (path_named s.base uri path is) (link_of s n path)
+
+  close_sound : (uri : List ℕ) → IsSound s n (or_refusal s (on_close s n uri))
+  close_sound uri = by_path (path_of s.base uri) where
+    by_link : (path : List ℕ) (link : Option Link)
+        → IsSound s n (or_refusal s (open_link link >>= λ l. Ok (record (answers s Success) { own = Gone path })))
+    by_link path None = refused_sound _ h
+    by_link path (Some link) =
+        quiet_sound s n _ (keeps_all s.holding) refl steady (gone_open (IsLinked s.holding) path (links_of s n) h)
+
+    by_path : (r : Result (List ℕ) UriFault)
+        → IsSound s n
+        (or_refusal s
+        (unless_bad_uri r >>= λ path. open_link (link_of s n path) >>= λ l. Ok (record (answers s Success) { own = Gone path })))
+    by_path (Err fault) = refused_sound _ h
+    by_path (Ok path) = by_link path (link_of s n path)
+
+  -- an edit that its link can take
+  taken_sound : (path : List ℕ) (seen : ℕ) (link : Link) (p : Cells) → IsPath path → link_of s n path ≡ Some link → MayTake link seen p
+      → IsNormal p → InsertsScalars p
+      → IsSound s n
+      (or_refusal s
+      (changed s path (carried_edit seen p link) (Gone path)
+      >>= λ after. Ok (with_change s path (carried_edit seen p link) after (Taken path seen p))))
+  taken_sound path seen link p path_is is can normal scalars =
+      let here : IsLinked s.holding path link = h path link is in
+      changed_sound path (carried_edit seen p link) (Taken path seen p) (Gone path)
+      (record {
+        path_is = path_is;
+        fits = carried_fits link seen p here.chain can ∙ ap length here.text;
+        normal = carried_edit_normal seen p link normal;
+        scalars = carried_edit_scalars seen p link scalars;
+      })
+      (λ after. after) (λ after changes. changes) (λ after is_steady. is_steady)
+      (λ after changes. changed_open (IsLinked s.holding) (IsLinked after) path (with_edit seen p) (links_of s n) h
+      (λ l found linked.
+      let one : Some l ≡ Some link = sym found ∙ is in
+      let same : l ≡ link = cc in
+      subst (λ m. IsLinked after path (with_edit seen p m)) (sym same)
+      (linked_took s.holding path seen p link after changes path here (is_path_itself path) can))
+      (λ other l apart linked. linked_elsewhere s.holding path (carried_edit seen p link) after changes other l linked apart))
+      (gone_open (IsLinked s.holding) path (links_of s n) h)
+
+  edit_sound : (uri : List ℕ) (seen : ℕ) (edits : List TextEdit) → AllByRecursion ReplacesByScalars edits → IsSound s n (or_refusal s (on_edit s n uri seen edits))
+  edit_sound uri seen edits scalars = by_path (path_of s.base uri) refl where
+    by_edits : (path : List ℕ) (link : Link) → IsPath path → link_of s n path ≡ Some link → revision_fault seen link ≡ None
+        → (r : Result Cells EditsFault) → delta_of_edits (editor_text seen link) edits ≡ r
+        → IsSound s n
+        (or_refusal s
+        (unless_bad_edits path r
+        >>= λ edit. changed s path (carried_edit seen edit link) (Gone path)
+        >>= λ after. Ok (with_change s path (carried_edit seen edit link) after (Taken path seen edit))))
+    by_edits path link path_is is known (Err fault) gives = refused_sound _ (gone_open (IsLinked s.holding) path (links_of s n) h)
+    by_edits path link path_is is known (Ok p) gives =
+        let revision = known_revision link seen known in
+        taken_sound path seen link p path_is is
+        (record {
+          confirmed = revision.confirmed;
+          given = revision.given;
+          fits = edits_fit (editor_text seen link) edits p gives;
+        })
+        (edits_normal (editor_text seen link) edits p gives)
+        (edits_scalars (editor_text seen link) edits p scalars gives)
+
+    by_revision : (path : List ℕ) (link : Link) → IsPath path → link_of s n path ≡ Some link
+        → (fault : Option BridgeFault) → revision_fault seen link ≡ fault
+        → IsSound s n
+        (or_refusal s
+        (unless_bad_revision fault path seen link
+        >>= λ text. unless_bad_edits path (delta_of_edits text edits)
+        >>= λ edit. changed s path (carried_edit seen edit link) (Gone path)
+        >>= λ after. Ok (with_change s path (carried_edit seen edit link) after (Taken path seen edit))))
+    by_revision path link path_is is (Some fault) known = refused_sound _ (gone_open (IsLinked s.holding) path (links_of s n) h)
+    by_revision path link path_is is None known = by_edits path link path_is is known (delta_of_edits (editor_text seen link) edits) refl
+
+    by_link : (path : List ℕ) (link : Option Link) → IsPath path → link_of s n path ≡ link
+        → IsSound s n
+        (or_refusal s
+        (open_link link
+        >>= λ l. text_shown path seen l
+        >>= λ text. unless_bad_edits path (delta_of_edits text edits)
+        >>= λ edit. changed s path (carried_edit seen edit l) (Gone path)
+        >>= λ after. Ok (with_change s path (carried_edit seen edit l) after (Taken path seen edit))))
+    by_link path None path_is is = refused_sound _ h
+    by_link path (Some link) path_is is = by_revision path link path_is is (revision_fault seen link) refl
+
+    by_path : (r : Result (List ℕ) UriFault) → path_of s.base uri ≡ r
+        → IsSound s n
+        (or_refusal s
+        (unless_bad_uri r
+        >>= λ path. open_link (link_of s n path)
+        >>= λ l. text_shown path seen l
+        >>= λ text. unless_bad_edits path (delta_of_edits text edits)
+        >>= λ edit. changed s path (carried_edit seen edit l) (Gone path)
+        >>= λ after. Ok (with_change s path (carried_edit seen edit l) after (Taken path seen edit))))
+    by_path (Err fault) is = refused_sound _ h
+    by_path (Ok path) is = by_link path (link_of s n path) (path_named s.base uri path is) refl
+
+  pub message_sound : (message : FromEditor) → SaysScalars message → IsSound s n (or_refusal s (on_message s n message))
+  message_sound (Open uri content) says = open_sound uri content says
+  message_sound (Close uri) says = close_sound uri
+  message_sound (Edit uri revision edits) says = edit_sound uri revision edits says
+  message_sound (Cursor uri ranges) says = stays_sound s n _ refl refl refl steady h
+  message_sound Shutdown says = stays_sound s n _ refl refl refl steady h
+  message_sound Response says = stays_sound s n _ refl refl refl steady h

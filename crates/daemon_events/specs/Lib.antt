@@ -1,0 +1,5 @@
+pub mod State
+pub mod Outcome
+pub mod Serving
+pub mod Outputs
+pub mod Laws
