@@ -99,15 +99,15 @@ opening_steady h path is =
     }
 
 -- the text that had changed has
-pub opening_changes : (h : Holding) (path : List ℕ) (d : Cells) (after : Holding) → ChangesText h path d after → ChangesText h path d (opening after path)
-opening_changes h path d after changes =
-    let kept : KeepsTexts after (opening after path) = opening_keeps after path in
+pub opening_changes : (h : Holding) (path : List ℕ) (d : Cells) (opened : List ℕ) (after : Holding) → ChangesText h path d after → ChangesText h path d (opening after opened)
+opening_changes h path d opened after changes =
+    let kept : KeepsTexts after (opening after opened) = opening_keeps after opened in
     record {
-      text = keeps_text after (opening after path) kept path ∙ changes.text;
-      elsewhere = λ other apart. keeps_text after (opening after path) kept other ∙ changes.elsewhere other apart;
-      count = keeps_count after (opening after path) kept ∙ changes.count;
+      text = keeps_text after (opening after opened) kept path ∙ changes.text;
+      elsewhere = λ other apart. keeps_text after (opening after opened) kept other ∙ changes.elsewhere other apart;
+      count = keeps_count after (opening after opened) kept ∙ changes.count;
       names = λ name held. ap (λ history. change_at history name) kept.history ∙ changes.names name held;
-      records = still_behind h.recorded after.recorded (opening after path).recorded changes.records kept.records;
+      records = still_behind h.recorded after.recorded (opening after opened).recorded changes.records kept.records;
     }
 
 -- ---- a change

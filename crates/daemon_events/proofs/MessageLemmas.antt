@@ -41,8 +41,8 @@ use Rattle.daemon_history.specs.Holding.{Holding, view_at, text_at, held}
 use Rattle.daemon_history.specs.Making as history
 use Rattle.daemon_history.specs.Making.{Clash, making}
 use Rattle.daemon_events.specs.Laws.{IsLinked}
-use Rattle.daemon_events.specs.Outcome.{answers}
-use Rattle.daemon_events.specs.Serving.{unless_clash, changed, with_change, opening, on_open, on_edit, on_close, on_message, or_refusal}
+use Rattle.daemon_events.specs.Serving.{desk_of, noted, unless_clash, done, carried_out, on_message, or_refusal}
+use Rattle.daemon_events.specs.Wanting.{text_on, asks, changing, unless_long, opening}
 use Rattle.daemon_events.specs.State.{State, links_of, link_of}
 use Rattle.daemon_events.proofs.HoldingLemmas.{IsSteady, ChangesText, KeepsTexts, CanChange, keeps_all, read_text, opening_keeps, opening_steady, opening_changes, made_changes, made_steady}
 use Rattle.daemon_events.proofs.LinkLemmas.{linked_elsewhere, linked_took, linked_kept}
@@ -106,35 +106,47 @@ module _ (s : State) (n : ℕ) (steady : IsSteady s.holding) (few : held s.holdi
     normal : IsNormal d
     scalars : InsertsScalars d
 
+  -- the note that follows keeps what links see
+  noted_changes : (opens : Option (List ℕ)) (path : List ℕ) (d : Cells) (after : Holding) → ChangesText s.holding path d after
+      → ChangesText s.holding path d (noted opens after)
+  noted_changes None path d after changes = changes
+  noted_changes (Some opened) path d after changes = opening_changes s.holding path d opened after changes
+
+  noted_steady : (opens : Option (List ℕ)) (after : Holding) → IsSteady after → IsSteady (noted opens after)
+  noted_steady None after is = is
+  noted_steady (Some opened) after is = opening_steady after opened is
+
   -- one change, or that the text would be too long, or that another change has its name
-  changed_sound : (path : List ℕ) (d : Cells) (own if_refused : LinkEvent) → CanEdit path d → (next : Holding → Holding)
-      → ((after : Holding) → ChangesText s.holding path d after → ChangesText s.holding path d (next after))
-      → ((after : Holding) → IsSteady after → IsSteady (next after))
+  changed_sound : (path before : List ℕ) (d : Cells) (own if_refused : LinkEvent) (opens : Option (List ℕ)) → before ≡ text_at s.holding path → CanEdit path d
       → ((after : Holding) → ChangesText s.holding path d after → AllLinked after (own_links own (links_of s n)))
       → AllLinked s.holding (own_links if_refused (links_of s n))
-      → IsSound s n (or_refusal s (changed s path d if_refused >>= λ after. Ok (with_change s path d (next after) own)))
-  changed_sound path d own if_refused can next changes_on steady_on taken refused =
-      by (may_grow (length (text_at s.holding path)) (length (applied d (text_at s.holding path)))) refl where
-        made : (r : Result Holding Clash) → making s.holding path d ≡ r → CanChange s.holding path d
-            → IsSound s n (or_refusal s (unless_clash if_refused r >>= λ after. Ok (with_change s path d (next after) own)))
-        made (Err clash) is may = refused_sound _ refused
-        made (Ok after) is may =
-            let changes : ChangesText s.holding path d (next after) = changes_on after (made_changes s.holding after path d may is) in
+      → IsSound s n
+      (or_refusal s ((unless_long before d if_refused >>= λ e. Ok (record (changing path e own if_refused) { opens = opens })) >>= carried_out s))
+  changed_sound path before d own if_refused opens here can taken refused =
+      by (may_grow (length before) (length (applied d before))) refl where
+        made_sound : (r : Result Holding Clash) → making s.holding path d ≡ r → CanChange s.holding path d
+            → IsSound s n
+            (or_refusal s
+            (unless_clash if_refused r >>= λ after. Ok (done s (record (changing path d own if_refused) { opens = opens }) after)))
+        made_sound (Err clash) is may = refused_sound _ refused
+        made_sound (Ok after) is may =
+            let changes : ChangesText s.holding path d (noted opens after) =
+            noted_changes opens path d after (made_changes s.holding after path d may is) in
             record {
-              steady = steady_on after (made_steady s.holding after path d may is);
-              own = taken (next after) changes;
+              steady = noted_steady opens after (made_steady s.holding after path d may is);
+              own = taken (noted opens after) changes;
               change = Made path d can.fits changes refl;
             }
 
-        by : (b : Bool) → may_grow (length (text_at s.holding path)) (length (applied d (text_at s.holding path))) ≡ b
+        by : (b : Bool) → may_grow (length before) (length (applied d before)) ≡ b
             → IsSound s n
             (or_refusal s
-            ((if b then unless_clash if_refused (making s.holding path d)
-            else Err (record { refusal = TextTooLong (length (applied d (text_at s.holding path))); own = if_refused }))
-            >>= λ after. Ok (with_change s path d (next after) own)))
+            (((if b then Ok d else Err (record { refusal = TextTooLong (length (applied d before)); own = if_refused }))
+            >>= λ e. Ok (record (changing path e own if_refused) { opens = opens }))
+            >>= carried_out s))
         by false grows = refused_sound _ refused
         by true grows =
-            made (making s.holding path d) refl
+            made_sound (making s.holding path d) refl
             (record {
               steady = steady;
               few = few;
@@ -142,17 +154,20 @@ module _ (s : State) (n : ℕ) (steady : IsSteady s.holding) (few : held s.holdi
               fits = can.fits;
               normal = can.normal;
               scalars = can.scalars;
-              short = grown_short (length (text_at s.holding path)) (length (applied d (text_at s.holding path))) (steady.short path) grows;
+              short =
+                  subst (λ (text : List ℕ). length (applied d text) < 2 ^ 62) here
+                  (grown_short (length before) (length (applied d before))
+                  (subst (λ (text : List ℕ). length text < 2 ^ 62) (sym here) (steady.short path)) grows);
             })
 
   -- a file is opened, by the text that it has or as a new one
   opening_sound : (path content : List ℕ) → IsPath path → all_scalars content ≡ true
-      → IsSound s n (or_refusal s (opening s path content (view_at s.holding path)))
+      → IsSound s n (or_refusal s (opening path content (view_at s.holding path) >>= carried_out s))
   opening_sound path content path_is scalars = by_view (view_at s.holding path) refl where
     shown : (view : Option (List ℕ)) → view_at s.holding path ≡ view → text_at s.holding path ≡ unwrap_or view []
     shown view is = read_text s.holding path ∙ ap (λ (v : Option (List ℕ)). unwrap_or v []) is
 
-    by_view : (view : Option (List ℕ)) → view_at s.holding path ≡ view → IsSound s n (or_refusal s (opening s path content view))
+    by_view : (view : Option (List ℕ)) → view_at s.holding path ≡ view → IsSound s n (or_refusal s (opening path content view >>= carried_out s))
     by_view (Some view) is =
         let kept : KeepsTexts s.holding (history.opening s.holding path) = opening_keeps s.holding path in
         quiet_sound s n _ kept refl (opening_steady s.holding path steady)
@@ -162,11 +177,8 @@ module _ (s : State) (n : ℕ) (steady : IsSteady s.holding) (few : held s.holdi
         (λ other link apart found. linked_kept s.holding (history.opening s.holding path) kept other link (h other link found)))
     by_view None is =
         let empty : text_at s.holding path ≡ [] = shown None is in
-        changed_sound path (inserting content) (Opened path content []) Stays
+        changed_sound path [] (inserting content) (Opened path content []) Stays (Some path) (sym empty)
         (record { path_is = path_is; fits = sym (ap length empty); normal = tt; scalars = scalars })
-        (λ after. history.opening after path)
-        (λ after changes. opening_changes s.holding path (inserting content) after changes)
-        (λ after is_steady. opening_steady after path is_steady)
         (λ after changes. new_open (IsLinked after) path (opened_link content []) (links_of s n)
         (record {
           text = sym (changes.text ∙ ap (applied (inserting content)) empty);
@@ -177,24 +189,24 @@ module _ (s : State) (n : ℕ) (steady : IsSteady s.holding) (few : held s.holdi
         (λ other link apart found. linked_elsewhere s.holding path (inserting content) after changes other link (h other link found) apart))
         h
 
-  open_sound : (uri content : List ℕ) → all_scalars content ≡ true → IsSound s n (or_refusal s (on_open s n uri content))
+  open_sound : (uri content : List ℕ) → all_scalars content ≡ true → IsSound s n (or_refusal s (on_message s n (Open uri content)))
   open_sound uri content scalars = by_path (path_of s.base uri) refl where
     by_link : (path : List ℕ) → IsPath path → (link : Option Link)
-        → IsSound s n (or_refusal s (no_link link >>= λ free. opening s path content (view_at s.holding path)))
+        → IsSound s n (or_refusal s ((no_link link >>= λ free. opening path content (view_at s.holding path)) >>= carried_out s))
     by_link path path_is (Some link) = refused_sound _ h
     by_link path path_is None = opening_sound path content path_is scalars
 
     by_path : (r : Result (List ℕ) UriFault) → path_of s.base uri ≡ r
         → IsSound s n
         (or_refusal s
-        (unless_bad_uri r >>= λ path. no_link (link_of s n path) >>= λ free. opening s path content (view_at s.holding path)))
+        ((unless_bad_uri r >>= λ path. no_link (link_of s n path) >>= λ free. opening path content (view_at s.holding path)) >>= carried_out s))
     by_path (Err fault) is = refused_sound _ h
     by_path (Ok path) is = by_link path (path_named s.base uri path is) (link_of s n path)
 
-  close_sound : (uri : List ℕ) → IsSound s n (or_refusal s (on_close s n uri))
+  close_sound : (uri : List ℕ) → IsSound s n (or_refusal s (on_message s n (Close uri)))
   close_sound uri = by_path (path_of s.base uri) where
     by_link : (path : List ℕ) (link : Option Link)
-        → IsSound s n (or_refusal s (open_link link >>= λ l. Ok (record (answers s Success) { own = Gone path })))
+        → IsSound s n (or_refusal s ((open_link link >>= λ l. Ok (record (asks Success) { own = Gone path })) >>= carried_out s))
     by_link path None = refused_sound _ h
     by_link path (Some link) =
         quiet_sound s n _ (keeps_all s.holding) refl steady (gone_open (IsLinked s.holding) path (links_of s n) h)
@@ -202,7 +214,7 @@ module _ (s : State) (n : ℕ) (steady : IsSteady s.holding) (few : held s.holdi
     by_path : (r : Result (List ℕ) UriFault)
         → IsSound s n
         (or_refusal s
-        (unless_bad_uri r >>= λ path. open_link (link_of s n path) >>= λ l. Ok (record (answers s Success) { own = Gone path })))
+        ((unless_bad_uri r >>= λ path. open_link (link_of s n path) >>= λ l. Ok (record (asks Success) { own = Gone path })) >>= carried_out s))
     by_path (Err fault) = refused_sound _ h
     by_path (Ok path) = by_link path (link_of s n path)
 
@@ -211,18 +223,17 @@ module _ (s : State) (n : ℕ) (steady : IsSteady s.holding) (few : held s.holdi
       → IsNormal p → InsertsScalars p
       → IsSound s n
       (or_refusal s
-      (changed s path (carried_edit seen p link) (Gone path)
-      >>= λ after. Ok (with_change s path (carried_edit seen p link) after (Taken path seen p))))
+      ((unless_long (text_on (desk_of s n) path) (carried_edit seen p link) (Gone path) >>= λ d. Ok (changing path d (Taken path seen p) (Gone path)))
+      >>= carried_out s))
   taken_sound path seen link p path_is is can normal scalars =
       let here : IsLinked s.holding path link = h path link is in
-      changed_sound path (carried_edit seen p link) (Taken path seen p) (Gone path)
+      changed_sound path (text_on (desk_of s n) path) (carried_edit seen p link) (Taken path seen p) (Gone path) None (sym (read_text s.holding path))
       (record {
         path_is = path_is;
         fits = carried_fits link seen p here.chain can ∙ ap length here.text;
         normal = carried_edit_normal seen p link normal;
         scalars = carried_edit_scalars seen p link scalars;
       })
-      (λ after. after) (λ after changes. changes) (λ after is_steady. is_steady)
       (λ after changes. changed_open (IsLinked s.holding) (IsLinked after) path (with_edit seen p) (links_of s n) h
       (λ l found linked.
       let one : Some l ≡ Some link = sym found ∙ is in
@@ -232,15 +243,17 @@ module _ (s : State) (n : ℕ) (steady : IsSteady s.holding) (few : held s.holdi
       (λ other l apart linked. linked_elsewhere s.holding path (carried_edit seen p link) after changes other l linked apart))
       (gone_open (IsLinked s.holding) path (links_of s n) h)
 
-  edit_sound : (uri : List ℕ) (seen : ℕ) (edits : List TextEdit) → AllByRecursion ReplacesByScalars edits → IsSound s n (or_refusal s (on_edit s n uri seen edits))
+  edit_sound : (uri : List ℕ) (seen : ℕ) (edits : List TextEdit) → AllByRecursion ReplacesByScalars edits
+      → IsSound s n (or_refusal s (on_message s n (Edit uri seen edits)))
   edit_sound uri seen edits scalars = by_path (path_of s.base uri) refl where
     by_edits : (path : List ℕ) (link : Link) → IsPath path → link_of s n path ≡ Some link → revision_fault seen link ≡ None
         → (r : Result Cells EditsFault) → delta_of_edits (editor_text seen link) edits ≡ r
         → IsSound s n
         (or_refusal s
-        (unless_bad_edits path r
-        >>= λ edit. changed s path (carried_edit seen edit link) (Gone path)
-        >>= λ after. Ok (with_change s path (carried_edit seen edit link) after (Taken path seen edit))))
+        ((unless_bad_edits path r
+        >>= λ edit. unless_long (text_on (desk_of s n) path) (carried_edit seen edit link) (Gone path)
+        >>= λ d. Ok (changing path d (Taken path seen edit) (Gone path)))
+        >>= carried_out s))
     by_edits path link path_is is known (Err fault) gives = refused_sound _ (gone_open (IsLinked s.holding) path (links_of s n) h)
     by_edits path link path_is is known (Ok p) gives =
         let revision = known_revision link seen known in
@@ -257,33 +270,36 @@ module _ (s : State) (n : ℕ) (steady : IsSteady s.holding) (few : held s.holdi
         → (fault : Option BridgeFault) → revision_fault seen link ≡ fault
         → IsSound s n
         (or_refusal s
-        (unless_bad_revision fault path seen link
+        ((unless_bad_revision fault path seen link
         >>= λ text. unless_bad_edits path (delta_of_edits text edits)
-        >>= λ edit. changed s path (carried_edit seen edit link) (Gone path)
-        >>= λ after. Ok (with_change s path (carried_edit seen edit link) after (Taken path seen edit))))
+        >>= λ edit. unless_long (text_on (desk_of s n) path) (carried_edit seen edit link) (Gone path)
+        >>= λ d. Ok (changing path d (Taken path seen edit) (Gone path)))
+        >>= carried_out s))
     by_revision path link path_is is (Some fault) known = refused_sound _ (gone_open (IsLinked s.holding) path (links_of s n) h)
     by_revision path link path_is is None known = by_edits path link path_is is known (delta_of_edits (editor_text seen link) edits) refl
 
     by_link : (path : List ℕ) (link : Option Link) → IsPath path → link_of s n path ≡ link
         → IsSound s n
         (or_refusal s
-        (open_link link
+        ((open_link link
         >>= λ l. text_shown path seen l
         >>= λ text. unless_bad_edits path (delta_of_edits text edits)
-        >>= λ edit. changed s path (carried_edit seen edit l) (Gone path)
-        >>= λ after. Ok (with_change s path (carried_edit seen edit l) after (Taken path seen edit))))
+        >>= λ edit. unless_long (text_on (desk_of s n) path) (carried_edit seen edit l) (Gone path)
+        >>= λ d. Ok (changing path d (Taken path seen edit) (Gone path)))
+        >>= carried_out s))
     by_link path None path_is is = refused_sound _ h
     by_link path (Some link) path_is is = by_revision path link path_is is (revision_fault seen link) refl
 
     by_path : (r : Result (List ℕ) UriFault) → path_of s.base uri ≡ r
         → IsSound s n
         (or_refusal s
-        (unless_bad_uri r
+        ((unless_bad_uri r
         >>= λ path. open_link (link_of s n path)
         >>= λ l. text_shown path seen l
         >>= λ text. unless_bad_edits path (delta_of_edits text edits)
-        >>= λ edit. changed s path (carried_edit seen edit l) (Gone path)
-        >>= λ after. Ok (with_change s path (carried_edit seen edit l) after (Taken path seen edit))))
+        >>= λ edit. unless_long (text_on (desk_of s n) path) (carried_edit seen edit l) (Gone path)
+        >>= λ d. Ok (changing path d (Taken path seen edit) (Gone path)))
+        >>= carried_out s))
     by_path (Err fault) is = refused_sound _ h
     by_path (Ok path) is = by_link path (link_of s n path) (path_named s.base uri path is) refl
 

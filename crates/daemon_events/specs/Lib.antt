@@ -1,5 +1,6 @@
 pub mod State
 pub mod Outcome
+pub mod Wanting
 pub mod Serving
 pub mod Outputs
 pub mod Laws
