@@ -186,6 +186,7 @@ notifications_do_the_same s n id message =
     record {
       state = refl;
       replies = reply (Some id) o.answer;
+      replies_are = refl;
       outputs =
           ap (λ sent. sent ++ rest) (map-append (send n) (reply (Some id) o.answer) own)
           ∙ append_assoc (map (send n) (reply (Some id) o.answer)) (map (send n) own) rest;

@@ -10,18 +10,21 @@ use Rattle.journal_format.specs.Image.{actor_is_first}
 use Rattle.journal_format.specs.declared.records.Record.{Record}
 use Rattle.replica_views.specs.Views as views
 use Rattle.replica_store.specs.Records.{AreTaken}
+use Rattle.rpc_message.specs.declared.faults.MessageFault.{MessageFault}
 use Rattle.rpc_message.specs.declared.messages.FromEditor.{FromEditor}
 use Rattle.rpc_message.specs.declared.messages.FromEditor.TheVariants.{Edit}
 use Rattle.rpc_message.specs.declared.messages.MessageId.{MessageId}
 use Rattle.rpc_message.specs.declared.messages.ToEditor.{ToEditor}
 use Rattle.rpc_message.specs.declared.refusals.Refusal.{Refusal}
 use Rattle.rpc_message.specs.declared.refusals.Refusal.TheVariants.{BadRevision, BadPosition, BackwardRange, TextTooLong, Clash}
-use Rattle.daemon_core.specs.Outcome.{Stays, Gone}
+use Rattle.daemon_core.specs.Outcome.{Answer, Stays, Gone}
+use Rattle.daemon_core.specs.Outputs.{reply}
 use Rattle.daemon_core.specs.Refusing.{Refused}
 use Rattle.daemon_core.specs.declared.events.Event.{Event}
 use Rattle.daemon_history.specs.Holding.{Holding, IsHolding, text_at, held}
 use Rattle.daemon_history.specs.Shown.{KeepsNames}
-use Rattle.daemon_events.specs.Outputs.{serve, serves, send, heard}
+use Rattle.daemon_events.specs.Outcome.{Outcome}
+use Rattle.daemon_events.specs.Outputs.{serve, serves, send, heard, outcome_of}
 use Rattle.daemon_events.specs.Serving.{on_message, or_refusal}
 use Rattle.daemon_events.specs.State.{State, started_on, link_of}
 
@@ -91,6 +94,15 @@ RefusalsChangeNothing =
     (s : State) (n : ℕ) (message : FromEditor) (refused : Refused) → on_message s n message ≡ Err refused
     → ChangesNothing s n message
 
+-- so does a body that is no message, and no link ends
+pub record LeavesAll (s : State) (o : Outcome) : Type 0 where
+  pub holding : o.holding ≡ s.holding
+  pub own : o.own ≡ Stays
+  pub untold : o.effects ≡ []
+
+abbrev pub FaultsChangeNothing : Type 0
+FaultsChangeNothing = (s : State) (n : ℕ) (fault : MessageFault) → LeavesAll s (outcome_of s n (Err fault))
+
 -- which refusals of an edit end its link: those that are judged at the link
 abbrev pub ends_link : Refusal → Bool
 ends_link (BadRevision confirmed issued seen) = true
@@ -114,14 +126,20 @@ abbrev pub RefusalsEndLinksSo : Type 0
 RefusalsEndLinksSo =
     (s : State) (n : ℕ) (message : FromEditor) (refused : Refused) → on_message s n message ≡ Err refused → EndsSo s message refused
 
--- Whether a message has an id decides on the reply alone: as a notification it does the same, and the rest that is sent is the same.
+-- Whether a message has an id decides on the reply alone: as a notification it does the same, and the rest that is sent is the same. With
+-- an id it is answered, and without one it is not.
 pub record DiffersInReply (s : State) (n : ℕ) (id : MessageId) (message : FromEditor) : Type 0 where
   pub state :
       (heard s n (Ok (record { id = Some id; message = message }))).state ≡ (heard s n (Ok (record { id = None; message = message }))).state
   pub replies : List ToEditor
+  pub replies_are : replies ≡ reply (Some id) (outcome_of s n (Ok (record { id = Some id; message = message }))).answer
   pub outputs :
       (heard s n (Ok (record { id = Some id; message = message }))).outputs
       ≡ map (send n) replies ++ (heard s n (Ok (record { id = None; message = message }))).outputs
 
 abbrev pub NotificationsDoTheSame : Type 0
 NotificationsDoTheSame = (s : State) (n : ℕ) (id : MessageId) (message : FromEditor) → DiffersInReply s n id message
+
+-- a notification is not answered, whether it is done, refused or no message at all
+abbrev pub NotificationsHaveNoReply : Type 0
+NotificationsHaveNoReply = (answer : Answer) → reply None answer ≡ []
