@@ -1,5 +1,5 @@
 -- What one more change makes of each file.
-use Rattle.std.proofs.Common.{◌≡◌, ℕ, Bool, true, false, cond, List, [], ◌∷◌, Option, Some, refl, sym, ap, ◌∙◌}
+use Rattle.std.proofs.Common.{◌≡◌, ℕ, Bool, true, false, cond, List, [], ◌∷◌, Option, Some, is_some, refl, sym, ap, ◌∙◌}
 use Rattle.std.specs.declared.cmp.Ordering.{Ordering}
 use Rattle.std.specs.declared.cmp.Ordering.TheVariants.{Less, Equal, Greater}
 use Rattle.std.specs.BTreeMap.{is_at, insert_entry}
@@ -11,7 +11,7 @@ use Rattle.std.specs.Ordering.{nat_cmp, is_eq, match_ordering}
 use Rattle.std.proofs.lemmas.Cmp.{tied_itself, alike_right}
 use Rattle.std.proofs.lemmas.Map.Lookups.{exact_bytes}
 use Rattle.delta.specs.Cells.{Cells, applied}
-use Rattle.daemon_core.specs.History.{History, is_path, text_at, made}
+use Rattle.daemon_core.specs.History.{History, is_path, view_at, text_at, made}
 
 pub is_tied : (r : Ordering) → is_eq r ≡ true → r ≡ Equal
 is_tied Less e = cc
@@ -78,3 +78,20 @@ text_elsewhere history path other d apart =
     ap (λ (r : Option (List ℕ)). unwrap_or r [])
     (lookup_put (slice_cmp nat_cmp) nat_list_cmp_total path other (applied d (text_at history path)) history.files
     ∙ ap (λ b. cond b (Some (applied d (text_at history path))) (lookup (is_path other) history.files)) apart)
+
+-- a file stays a file
+pub stays_there : (history : History) (path other : List ℕ) (d : Cells) → is_some (view_at history other) ≡ true
+    → is_some (view_at (made history path d) other) ≡ true
+stays_there history path other d there =
+    ap is_some (lookup_put (slice_cmp nat_cmp) nat_list_cmp_total path other (applied d (text_at history path)) history.files)
+    ∙ by (is_path other path) where
+      by : (b : Bool) → is_some (cond b (Some (applied d (text_at history path))) (view_at history other)) ≡ true
+      by true = refl
+      by false = there
+
+-- a change makes one
+pub is_there : (history : History) (path : List ℕ) (d : Cells) → is_some (view_at (made history path d) path) ≡ true
+is_there history path d =
+    ap is_some
+    (lookup_put (slice_cmp nat_cmp) nat_list_cmp_total path path (applied d (text_at history path)) history.files
+    ∙ ap (λ b. cond b (Some (applied d (text_at history path))) (lookup (is_path path) history.files)) (is_path_itself path))

@@ -9,7 +9,7 @@ use Rattle.transform.proofs.MergedLemmas.{list_both_ways, list_stays_chain}
 use Rattle.editor_bridge.specs.Link.{Link, daemon_text, issued, editor_text, unshown, with_pushed, with_edit, carried_edit}
 use Rattle.daemon_core.specs.History.{History, is_path, text_at, made}
 use Rattle.daemon_core.specs.Laws.{IsLinked}
-use Rattle.daemon_core.proofs.FileLemmas.{text_made, text_elsewhere, path_same, is_path_back}
+use Rattle.daemon_core.proofs.FileLemmas.{text_made, text_elsewhere, stays_there, path_same, is_path_back}
 
 -- the text at a path that is the one of the change
 text_there : (history : History) (path other : List ℕ) (d : Cells) → is_path path other ≡ true
@@ -28,6 +28,7 @@ linked_told history path d other l h same fits =
     let behind : base_length d ≡ chain_end (length base) down = fits ∙ ap length here ∙ length-applied_all down base h.chain in
     let more : length (down ++ d ∷ []) ≡ length down + 1 = length-append down (d ∷ []) in
     record {
+      there = stays_there history path other d h.there;
       text = applied_all-push down d base ∙ ap (applied d) h.text ∙ sym (text_there history path other d same);
       chain = IsChain-push (length base) down d h.chain behind;
       issued = omega (arith, h.issued, more);
@@ -38,6 +39,7 @@ linked_told history path d other l h same fits =
 pub linked_elsewhere : (history : History) (path : List ℕ) (d : Cells) (other : List ℕ) (l : Link) → IsLinked history other l
     → is_path path other ≡ false → IsLinked (made history path d) other l
 linked_elsewhere history path d other l h apart = record {
+  there = stays_there history path other d h.there;
   text = h.text ∙ sym (text_elsewhere history path other d (is_path_back path other apart));
   chain = h.chain;
   issued = omega (arith, h.issued);
@@ -54,6 +56,7 @@ linked_untold history path d other l h nothing fits = by (is_path path other) re
       let here : text_at history path ≡ text_at history other = ap (text_at history) (path_same path other same) in
       let stays : applied d (text_at history other) ≡ text_at history other = applied-nothing d (text_at history other) nothing (fits ∙ ap length here) in
       record {
+        there = stays_there history path other d h.there;
         text = h.text ∙ sym (text_there history path other d same ∙ stays);
         chain = h.chain;
         issued = omega (arith, h.issued);
@@ -87,6 +90,7 @@ linked_took history path seen p other l h same can =
     let count : length (list_past p left) ≡ length l.unconfirmed - n = length-list_past p left ∙ length-drop n l.unconfirmed in
     let daemons : applied_all left shown ≡ text_at history other = applied_all-take-drop n l.unconfirmed l.base ∙ h.text in
     record {
+      there = stays_there history path other (carried_edit seen p l) h.there;
       text =
           sym (list_both_ways p left shown chain can.fits)
           ∙ ap (applied (past_list p left)) daemons

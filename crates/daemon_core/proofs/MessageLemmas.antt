@@ -1,5 +1,5 @@
 -- Whatever a message comes to, the links are as they should be afterwards.
-use Rattle.std.proofs.Common.{◌≡◌, ℕ, ◌+◌, ◌-◌, ◌≤◌, Bool, true, false, List, [], ◌∷◌, length, Option, Some, None, Result, Ok, Err, nat_lt, refl, sym, ap, ◌∙◌, subst, arith}
+use Rattle.std.proofs.Common.{◌≡◌, ℕ, ◌+◌, ◌-◌, ◌≤◌, Bool, true, false, List, [], ◌∷◌, length, Option, Some, None, is_some, Result, Ok, Err, nat_lt, refl, sym, ap, ◌∙◌, subst, arith}
 use Rattle.std.specs.Option.{unwrap_or}
 use Rattle.std.specs.Prelude.{if◌then◌else◌}
 use Rattle.std.specs.Str.{bytes_eq}
@@ -33,7 +33,7 @@ use Rattle.daemon_core.specs.Outcome.{LinkEvent, Stays, Opened, Taken, Gone, Suc
 use Rattle.daemon_core.specs.Refusing.{Refused, ◌>>=◌, unless_bad_uri, open_link, no_link, unless_bad_revision, text_shown, unless_bad_edits, may_grow}
 use Rattle.daemon_core.specs.Serving.{with_change, changed, opening, on_open, on_edit, on_close, on_message, or_refusal}
 use Rattle.daemon_core.specs.State.{Links, State, links_of, link_of}
-use Rattle.daemon_core.proofs.FileLemmas.{is_path_itself, text_made}
+use Rattle.daemon_core.proofs.FileLemmas.{is_path_itself, text_made, is_there}
 use Rattle.daemon_core.proofs.LinkLemmas.{linked_told, linked_elsewhere, linked_untold, linked_took, MayTake, chain_left}
 use Rattle.daemon_core.proofs.StepLemmas.{AllLinked, IsSound, IsChange, Quiet, Made, gone_linked, opened_linked, changed_linked}
 
@@ -68,17 +68,19 @@ told_all s o (Made path d fits same effects) links h =
     (subst (λ (es : List Effect). AllLinked (made s.history path d) (told_links es links)) (sym effects) (told_sound s path d fits links h))
 
 -- what follows an open at once leads from its content to the daemon's text
-opened_here : (history : History) (path content view : List ℕ) → view ≡ text_at history path
+opened_here : (history : History) (path content view : List ℕ) → is_some (view_at history path) ≡ true → view ≡ text_at history path
     → IsLinked history path (opened_link content (first_deltas content view))
-opened_here history path content view is = by (bytes_eq content view) refl where
+opened_here history path content view there is = by (bytes_eq content view) refl where
   by : (b : Bool) → bytes_eq content view ≡ b → IsLinked history path (opened_link content (replacement_unless b content view))
   by true same = record {
+    there = there;
     text = (bytes_eq-Decides content view).0 same ∙ is;
     chain = tt;
     issued = omega arith;
     taken = omega arith;
   }
   by false differs = record {
+    there = there;
     text = applied-replacing_all view (length content) content refl ∙ is;
     chain = (omega (arith, base_length-inserts view (deleting (length content)), base_length-covers false (length content) cells.nothing), tt);
     issued = omega arith;
@@ -158,7 +160,7 @@ opening_sound s n path content h = by_view path (view_at s.history path) refl wh
   by_view path (Some view) is =
       quiet_sound s n _ refl refl
       (opened_linked s.history path (opened_link content (first_deltas content view)) (links_of s n)
-      (opened_here s.history path content view (sym (ap (λ (v : Option (List ℕ)). unwrap_or v []) is)))
+      (opened_here s.history path content view (ap is_some is) (sym (ap (λ (v : Option (List ℕ)). unwrap_or v []) is)))
       (λ other link apart found. h other link found))
   by_view path None is =
       let empty : text_at s.history path ≡ [] = ap (λ (v : Option (List ℕ)). unwrap_or v []) is in
@@ -166,6 +168,7 @@ opening_sound s n path content h = by_view path (view_at s.history path) refl wh
       changed_sound s n path (inserting content) (Opened path content []) Stays fits
       (opened_linked (made s.history path (inserting content)) path (opened_link content []) (links_of s n)
       (record {
+        there = is_there s.history path (inserting content);
         text = sym (text_made s.history path (inserting content) ∙ ap (applied (inserting content)) empty);
         chain = tt;
         issued = omega arith;

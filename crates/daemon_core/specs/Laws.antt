@@ -1,5 +1,5 @@
 -- What holds of every daemon, as statements.
-use Rattle.std.specs.Prelude.{◌≡◌, ℕ, ◌+◌, ◌≤◌, Bool, true, false, List, [], ◌∷◌, ◌++◌, map, length, Some, None, Ok, Err}
+use Rattle.std.specs.Prelude.{◌≡◌, ℕ, ◌+◌, ◌≤◌, Bool, true, false, List, [], ◌∷◌, ◌++◌, map, length, Some, None, is_some, Ok, Err}
 use Rattle.file_uri.specs.Base.{BaseView}
 use Rattle.file_uri.specs.PathOf.{path_of}
 use Rattle.transform.specs.Carried.{IsChain}
@@ -10,7 +10,7 @@ use Rattle.rpc_message.specs.declared.messages.MessageId.{MessageId}
 use Rattle.rpc_message.specs.declared.messages.ToEditor.{ToEditor}
 use Rattle.rpc_message.specs.declared.refusals.Refusal.{Refusal}
 use Rattle.rpc_message.specs.declared.refusals.Refusal.TheVariants.{BadRevision, BadPosition, BackwardRange, TextTooLong}
-use Rattle.daemon_core.specs.History.{History, text_at}
+use Rattle.daemon_core.specs.History.{History, view_at, text_at}
 use Rattle.daemon_core.specs.Outcome.{Answer, Stays, Gone}
 use Rattle.daemon_core.specs.Outputs.{Served, serve, reply, send, heard}
 use Rattle.daemon_core.specs.Refusing.{Refused}
@@ -18,9 +18,10 @@ use Rattle.daemon_core.specs.Serving.{on_message, or_refusal}
 use Rattle.daemon_core.specs.State.{State, new_state, link_of}
 use Rattle.daemon_core.specs.declared.events.Event.{Event}
 
--- The link to the file at a path leads to the daemon's text there, and has counted no more than the daemon's changes and
+-- The link to a file leads to the daemon's text there, and has counted no more than the daemon's changes and
 -- the replacement that may follow an open.
 pub record IsLinked (history : History) (path : List ℕ) (link : Link) : Type 0 where
+  pub there : is_some (view_at history path) ≡ true
   pub text : daemon_text link ≡ text_at history path
   pub chain : IsChain (length link.base) link.unconfirmed
   pub issued : issued link ≤ history.held + 1

@@ -7,7 +7,7 @@
 mod events;
 pub mod laws;
 
-pub use events::{Event, Output};
+pub use events::{Event, Notice, Output};
 
 /// The characters that a text may have after an edit that lengthens it, and that a new file may have.
 pub const LONGEST_TEXT: usize = 1_048_576;

@@ -21,6 +21,7 @@ use Rattle.daemon_history.specs.Holding.{Holding, IsHolding, text_at, view_at, h
 use Rattle.daemon_history.specs.Making.{making, unless_held, with_change, with_noted, is_open, opening}
 use Rattle.daemon_history.specs.Shown.{KeepsNames, ChangesOne}
 use Rattle.daemon_events.specs.Laws.{IsBehind}
+use Rattle.daemon_events.specs.Serving.{noted}
 use Rattle.daemon_history.proofs.HoldingLemmas.{holding_noted, made_changes_one}
 use Rattle.daemon_history.proofs.OwnLemmas.{own_made_may_come}
 
@@ -80,6 +81,10 @@ opened_keeps h path false = record { history = refl; records = one_behind h.reco
 
 pub opening_keeps : (h : Holding) (path : List ℕ) → KeepsTexts h (opening h path)
 opening_keeps h path = opened_keeps h path (is_open (note_of h path))
+
+pub noted_keeps : (opens : Option (List ℕ)) (h : Holding) → KeepsTexts h (noted opens h)
+noted_keeps None h = keeps_all h
+noted_keeps (Some path) h = opening_keeps h path
 
 opened_holds : (h : Holding) (path : List ℕ) (already : Bool) → IsHolding h → IsHolding (if already then h else with_noted h path Open)
 opened_holds h path true is = is
@@ -146,7 +151,7 @@ pub apart : (path other : List ℕ) → is_path other path ≡ false → other �
 apart path other differs same =
     let both : true ≡ false = sym (is_path_itself path) ∙ ap (λ (p : List ℕ). is_path p path) (sym same) ∙ differs in cc
 
-changes_one : (h after : Holding) (path : List ℕ) (d : Cells) → CanChange h path d → making h path d ≡ Ok after → ChangesOne h path d after
+pub changes_one : (h after : Holding) (path : List ℕ) (d : Cells) → CanChange h path d → making h path d ≡ Ok after → ChangesOne h path d after
 changes_one h after path d can made =
     let change : Change = views.made h.history h.actor path d in
     let new : is_held h.history (name_of change) ≡ false = nothing_held h after change (change_at h.history (name_of change)) made in

@@ -1,7 +1,8 @@
-mod HoldingLemmas
+pub mod HoldingLemmas
 mod LinkLemmas
-mod OpenLemmas
-mod StepLemmas
-mod MessageLemmas
-mod ServeLemmas
+pub mod OpenLemmas
+pub mod ConnectionLemmas
+pub mod StepLemmas
+pub mod MessageLemmas
+pub mod ServeLemmas
 mod RefusalLemmas

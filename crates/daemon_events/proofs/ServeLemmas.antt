@@ -1,12 +1,7 @@
 -- Whatever comes, a daemon goes on to serve, and what it holds stays.
-use Rattle.std.proofs.Common.{◌≡◌, ℕ, ◌+◌, ◌≤◌, ◌<◌, ◌^◌, Bool, true, false, cond, not, List, [], ◌∷◌, length, filter, Option, Some, None, is_some, Result, Ok, Err, IsTrue, refl, sym, ap, ◌∙◌, subst, arith}
+use Rattle.std.proofs.Common.{◌≡◌, ℕ, ◌+◌, ◌≤◌, ◌<◌, ◌^◌, not, List, [], ◌∷◌, length, filter, is_some, Result, Ok, Err, IsTrue, refl, sym, ap, ◌∙◌, subst, arith}
 use Rattle.std.specs.BTreeMap.{insert_entry}
-use Rattle.std.specs.Map.{lookup}
-use Rattle.std.specs.Option.{option_map, unwrap_or}
 use Rattle.std.specs.Ordering.{nat_cmp}
-use Rattle.std.specs.Prelude.{if◌then◌else◌}
-use Rattle.std.proofs.lemmas.Cmp.{nat_cmp_total}
-use Rattle.editor_bridge.specs.Link.{Link}
 use Rattle.change_graph.specs.History.{change_at, is_held}
 use Rattle.tt_base.specs.declared.ids.Name.{Name}
 use Rattle.editor_texts.specs.Scalars.{SaysScalars}
@@ -15,12 +10,9 @@ use Rattle.rpc_message.specs.Messages.{message_of}
 use Rattle.rpc_message.specs.declared.faults.MessageFault.{MessageFault}
 use Rattle.rpc_message.specs.declared.faults.MessageFault.TheVariants as fault
 use Rattle.rpc_message.specs.declared.messages.Incoming.{Incoming}
-use Rattle.daemon_core.specs.Outcome.{own_links, told_links}
-use Rattle.daemon_core.specs.State.{Links, is_number, link_at}
+use Rattle.daemon_core.specs.State.{Links, is_number}
 use Rattle.daemon_core.specs.declared.events.Event.{Event}
 use Rattle.daemon_core.specs.declared.events.Event.TheVariants.{EditorBegan, Ended, EditorFrame}
-use Rattle.daemon_core.proofs.FileLemmas.{lookup_put}
-use Rattle.daemon_core.proofs.MapLemmas.{lookup_without, none_left, lookup_each, number_same}
 use Rattle.tt_base.specs.declared.ids.Actor.{Actor}
 use Rattle.change_codec.specs.WellFormed.{IsActor}
 use Rattle.file_uri.specs.Base.{BaseView}
@@ -32,82 +24,35 @@ use Rattle.daemon_history.specs.Holding.{Holding, text_at, held}
 use Rattle.daemon_history.proofs.HoldingLemmas.{holding_started, restarted}
 use Rattle.daemon_history.specs.Shown.{KeepsNames}
 use Rattle.daemon_events.specs.Laws.{IsLinked, IsServing, IsBehind, RestartsSo}
-use Rattle.daemon_events.specs.Outcome.{Outcome, links_after, state_after}
+use Rattle.daemon_events.specs.Outcome.{Outcome, state_after}
 use Rattle.daemon_events.specs.Outputs.{outcome_of, serve, serves}
-use Rattle.daemon_events.specs.State.{State, started_on, links_of, link_of}
+use Rattle.daemon_events.specs.State.{State, started_on}
+use Rattle.daemon_events.proofs.ConnectionLemmas.{AllOpenIn, after_open, began_open, ended_open}
 use Rattle.daemon_events.proofs.HoldingLemmas.{keeps_all, keeps_count, still_behind}
 use Rattle.daemon_events.proofs.MessageLemmas.{message_sound}
 use Rattle.daemon_events.proofs.StepLemmas.{IsSound, IsChange, Quiet, Made, steady_of, stays_sound, told_all}
-
--- what a connection has open, as a look-up finds it
-abbrev found_links : Option Links → Links
-found_links found = unwrap_or found []
 
 after_sound : (s : State) (n : ℕ) (o : Outcome) → IsServing s → IsSound s n o → IsServing (state_after s n o)
 after_sound s n o h sound = record {
   holds = sound.steady.holds;
   actor_is = sound.steady.actor_is;
   short = sound.steady.short;
-  linked = λ c path link found. by c path link (lookup (is_number c) s.connections) refl (sym (ap (λ ls. link_at ls path) (here c)) ∙ found);
-} where
-  here : (c : ℕ) → links_of (state_after s n o) c ≡ found_links (option_map (links_after n o c) (lookup (is_number c) s.connections))
-  here c = ap found_links (lookup_each (is_number c) (links_after n o) c (number_same c) s.connections)
-
-  of_links : (c : ℕ) (path : List ℕ) (link : Link) (links : Links) → links_of s c ≡ links → (b : Bool) → is_number n c ≡ b
-      → link_at (if b then own_links o.own links else told_links o.effects links) path ≡ Some link → IsLinked o.holding path link
-  of_links c path link links is true own found =
-      let same : links ≡ links_of s n = sym is ∙ ap (links_of s) (sym (number_same n c own)) in
-      sound.own path link (ap (λ ls. link_at (own_links o.own ls) path) (sym same) ∙ found)
-  of_links c path link links is false other found =
-      told_all s o sound.change links (λ p l there. h.linked c p l (ap (λ ls. link_at ls p) is ∙ there)) path link found
-
-  by : (c : ℕ) (path : List ℕ) (link : Link) (links : Option Links) → lookup (is_number c) s.connections ≡ links
-      → link_at (found_links (option_map (links_after n o c) links)) path ≡ Some link → IsLinked o.holding path link
-  by c path link None is found = cc
-  by c path link (Some links) is found = of_links c path link links (ap found_links is) (is_number n c) refl found
+  linked =
+      after_open (IsLinked s.holding) (IsLinked o.holding) n o.own o.effects s.connections h.linked sound.own (told_all s o sound.change);
+}
 
 -- the same with other connections
-connected : (s : State) (connections : List (ℕ × Links)) → IsServing s
-    → ((c : ℕ) (path : List ℕ) (link : Link) → link_of (record s { connections = connections }) c path ≡ Some link → IsLinked s.holding path link)
+connected : (s : State) (connections : List (ℕ × Links)) → IsServing s → AllOpenIn (IsLinked s.holding) connections
     → IsServing (record s { connections = connections })
 connected s connections h linked = record { holds = h.holds; actor_is = h.actor_is; short = h.short; linked = linked }
 
 began : (s : State) (n : ℕ) → IsServing s → IsServing (serve s (EditorBegan n)).state
-began s n h = connected s (insert_entry nat_cmp s.connections n []) h (λ c path link found. by c path link (is_number c n) refl found) where
-  put : (c : ℕ) → lookup (is_number c) (insert_entry nat_cmp s.connections n []) ≡ cond (is_number c n) (Some []) (lookup (is_number c) s.connections)
-  put c = lookup_put nat_cmp nat_cmp_total n c [] s.connections
-
-  by : (c : ℕ) (path : List ℕ) (link : Link) (b : Bool) → is_number c n ≡ b
-      → link_of (serve s (EditorBegan n)).state c path ≡ Some link → IsLinked s.holding path link
-  by c path link true new found =
-      let none : None ≡ Some link =
-      sym (ap (λ ls. link_at (found_links ls) path) (put c ∙ ap (λ b. cond b (Some []) (lookup (is_number c) s.connections)) new)) ∙ found in cc
-  by c path link false old found =
-      h.linked c path link
-      (sym (ap (λ ls. link_at (found_links ls) path) (put c ∙ ap (λ b. cond b (Some []) (lookup (is_number c) s.connections)) old)) ∙ found)
+began s n h =
+    connected s (insert_entry nat_cmp s.connections n []) h (began_open (IsLinked s.holding) n s.connections h.linked)
 
 ended : (s : State) (n : ℕ) → IsServing s → IsServing (serve s (Ended n)).state
-ended s n h = connected s (filter (λ c. not (is_number n c.0)) s.connections) h (λ c path link found. by c path link (is_number n c) refl found) where
-  left : List (ℕ × Links)
-  left = filter (λ e. not (is_number n e.0)) s.connections
-
-  others : (c : ℕ) (path : List ℕ) (link : Link) (links : Option Links) → lookup (is_number c) left ≡ links → is_number n c ≡ false
-      → link_at (found_links links) path ≡ Some link → IsLinked s.holding path link
-  others c path link None is apart found = cc
-  others c path link (Some links) is apart found =
-      h.linked c path link
-      (ap (λ ls. link_at (found_links ls) path)
-      (lookup_without (is_number c) (is_number n) s.connections links is
-      (λ k at_k. subst (λ m. is_number n m ≡ false) (number_same c k at_k) apart))
-      ∙ found)
-
-  by : (c : ℕ) (path : List ℕ) (link : Link) (b : Bool) → is_number n c ≡ b
-      → link_at (found_links (lookup (is_number c) left)) path ≡ Some link → IsLinked s.holding path link
-  by c path link true same found =
-      let none : lookup (is_number c) left ≡ None =
-      subst (λ m. lookup (is_number m) left ≡ None) (number_same n c same) (none_left (is_number n) s.connections) in
-      let never : None ≡ Some link = sym (ap (λ ls. link_at (found_links ls) path) none) ∙ found in cc
-  by c path link false apart found = others c path link (lookup (is_number c) left) refl apart found
+ended s n h =
+    connected s (filter (λ c. not (is_number n c.0)) s.connections) h (ended_open (IsLinked s.holding) n s.connections h.linked)
 
 -- whatever a body comes to
 heard_sound : (s : State) (n : ℕ) (r : Result Incoming MessageFault) → ((m : Incoming) → r ≡ Ok m → SaysScalars m.message) → IsServing s

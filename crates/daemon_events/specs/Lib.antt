@@ -3,4 +3,5 @@ pub mod Outcome
 pub mod Wanting
 pub mod Serving
 pub mod Outputs
+pub mod Sending
 pub mod Laws

@@ -22,9 +22,9 @@ use Rattle.daemon_history.specs.Making.{Clash}
 use Rattle.daemon_events.specs.Outcome.{Outcome, answers, state_after}
 use Rattle.daemon_events.specs.Serving.{on_message, or_refusal}
 use Rattle.daemon_events.specs.State.{State, links_of}
-use Rattle.daemon_events.specs.declared.events.Notice.TheVariants as notice
-use Rattle.daemon_events.specs.declared.events.Output.{Output}
-use Rattle.daemon_events.specs.declared.events.Output.TheVariants.{Send, Notice, Shutdown}
+use Rattle.daemon_core.specs.declared.events.Notice.TheVariants as notice
+use Rattle.daemon_core.specs.declared.events.Output.{Output}
+use Rattle.daemon_core.specs.declared.events.Output.TheVariants.{Send, Notice, Shutdown}
 
 -- a message as a frame on a connection
 abbrev pub send : ℕ → ToEditor → Output

@@ -4,8 +4,6 @@
 //! makes one change, and is told to every other editor that has the file open.
 #![tactic(auto)]
 
-mod events;
 pub mod laws;
 
-pub use daemon_core::Event;
-pub use events::{Notice, Output};
+pub use daemon_core::{Event, Notice, Output};

@@ -1,5 +1,5 @@
 -- Links that are told of a change.
-use Rattle.std.proofs.Common.{◌≡◌, ℕ, ◌<◌, Bool, true, List, [], ◌∷◌, ◌++◌, append_assoc, append-nil, map, refl, sym, ap, ◌∙◌, subst, arith}
+use Rattle.std.proofs.Common.{◌≡◌, ℕ, ◌<◌, Bool, true, List, [], ◌∷◌, ◌++◌, append_assoc, append-nil, length, map, refl, sym, ap, ◌∙◌, subst, arith}
 use Rattle.std.proofs.Common.{Option, Some, None}
 use Rattle.std.specs.BTreeMap.{insert_entry}
 use Rattle.std.specs.Cmp.{nat_cmp_total}
@@ -9,8 +9,8 @@ use Rattle.std.specs.List.Sorted.{IsStrictlySortedBy}
 use Rattle.std.specs.Map.{keys_of, set_value}
 use Rattle.std.specs.Ordering.{nat_cmp}
 use Rattle.std.specs.Prelude.{if◌then◌else◌}
-use Rattle.delta.specs.Cells.{Cells, changes_nothing}
-use Rattle.editor_bridge.specs.Link.{Link, issued, daemon_text}
+use Rattle.delta.specs.Cells.{Cells, base_length, changes_nothing}
+use Rattle.editor_bridge.specs.Link.{Link, issued, daemon_text, daemon_length}
 use Rattle.file_uri.specs.Base.{BaseView}
 use Rattle.file_uri.specs.UriOf.{uri_of}
 use Rattle.rpc_message.specs.declared.messages.ToEditor.{ToEditor}
@@ -42,6 +42,13 @@ pub may_push : (text path : List ℕ) (links now : Links) (link : Link) → MayT
 may_push text path links now link may is found =
     let linked = may.linked.linked path link (sym (found ∙ ap (λ (ls : Links). link_at ls path) is)) in
     omega (arith, linked.issued, may.room)
+
+-- and the change is for the text that the link leads to
+pub may_fit : (text path : List ℕ) (d : Cells) (links now : Links) (link : Link) → MayTell text path now → links ≡ now → Some link ≡ link_at links path
+    → base_length d ≡ length text → base_length d ≡ daemon_length link
+may_fit text path d links now link may is found fits =
+    let linked = may.linked.linked path link (sym (found ∙ ap (λ (ls : Links). link_at ls path) is)) in
+    fits ∙ ap length (sym (linked.text ∙ may.there))
 
 pub edit_sent : (base : BaseView) (n : ℕ) (effect : Effect) (text : List ℕ) (links now : Links) (link : Link) (output : Output) → MayTell text effect.path now
     → links ≡ now → Some link ≡ link_at links effect.path

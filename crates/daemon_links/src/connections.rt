@@ -2,6 +2,7 @@ ghost use Rattle.std.specs.Prelude.{◌≡◌, ◌++◌, ◌∷◌, [], length, 
 ghost use Rattle.std.specs.BTreeMap.{insert_entry};
 ghost use Rattle.std.specs.List.Sorted.{IsStrictlySortedBy};
 ghost use Rattle.std.specs.Map.{lookup, keys_of};
+ghost use Rattle.std.specs.Option.{is_some};
 ghost use Rattle.std.specs.Ordering.{nat_cmp};
 ghost use Rattle.delta.specs.Cells.{base_length};
 ghost use Rattle.daemon_core.specs.History.{text_at};
@@ -71,6 +72,13 @@ impl Connections {
         Connections {
             open: BTreeMap::new(alloc),
         }
+    }
+
+    /// Whether there is a connection with this number.
+    pub fn has(&self, n: u64) -> bool
+        ensures { result ≡ is_some (lookup (is_number n) self.now) }
+    {
+        self.open.contains_key(&n)
     }
 
     /// A connection has these files open. After want of memory all is as it was.

@@ -65,6 +65,16 @@ impl Files {
         }
     }
 
+    /// No file is at hand yet of a daemon that holds so many changes.
+    pub fn of_changes(alloc: Global, held: u64) -> Files
+        ensures { result ≡ record { files = []; held = held } }
+    {
+        Files {
+            texts: BTreeMap::new(alloc),
+            held,
+        }
+    }
+
     /// How many changes were made.
     pub fn held(&self) -> u64
         ensures { result ≡ self.now.held }
@@ -87,6 +97,15 @@ impl Files {
             Some(text) => text.len(),
             None => 0,
         }
+    }
+
+    /// Has this text at hand for the file at a path. After want of memory all is as it was.
+    pub fn put(&mut self, path: SharedPath, text: Text) -> Result<(), AllocError>
+        ensures ok { OnOk result (self.new ≡ record self.old { files = insert_entry (slice_cmp nat_cmp) self.old.files path text }) }
+        ensures err { OnErr result (self.new ≡ self.old) }
+    {
+        self.texts.insert(path, text)?;
+        Ok(())
     }
 
     /// Makes one more change, of the text at a path. After want of memory all files are as they were.

@@ -33,6 +33,8 @@ fn told(alloc: Global, sent: &[Output]) -> Result<String, Fail> {
                 let line = format!(in alloc; "{n} {frame}\n")?;
                 all.push_str(line.as_str())?;
             }
+            Output::HangUp(_) => all.push_str("end\n")?,
+            Output::Notice(_) => all.push_str("notice\n")?,
             Output::Shutdown => all.push_str("stop\n")?,
         }
     }

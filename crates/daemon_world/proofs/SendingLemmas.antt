@@ -5,7 +5,7 @@ use Rattle.std.proofs.lemmas.Bool.{eqb-true, eq-eqb}
 use Rattle.std.proofs.lemmas.List.{append-nil}
 use Rattle.std.proofs.lemmas.List.Concat.{flat_map-append}
 use Rattle.daemon_core.specs.declared.events.Output.{Output}
-use Rattle.daemon_core.specs.declared.events.Output.TheVariants.{Send, Shutdown}
+use Rattle.daemon_core.specs.declared.events.Output.TheVariants.{Send}
 use Rattle.daemon_core.specs.State.{is_number}
 use Rattle.daemon_core.proofs.MapLemmas.{number_same}
 use Rattle.frame_world.specs.Serving.{frame_to, sent_on}
@@ -102,9 +102,9 @@ told_none k d output none =
     ap (λ editors. record k { editors = editors })
     (map_none (told_editor d (output ∷ [])) k.editors (λ e x at. untold d output x (none e x at)))
 
--- that the daemon is to stop is told nobody
-pub told_of_stop : (k : KeptWorld) (d : ℕ) → told k d (Shutdown ∷ []) ≡ k
-told_of_stop k d = told_none k d Shutdown (λ e x at here n on. refl)
+-- what is no frame is told nobody
+pub told_without_frame : (k : KeptWorld) (d : ℕ) (output : Output) → ((n : ℕ) → frame_to n output ≡ []) → told k d (output ∷ []) ≡ k
+told_without_frame k d output none = told_none k d output (λ e x at here n on. none n)
 
 -- no editor has the connection
 pub told_to_nobody : (k : KeptWorld) (d n : ℕ) (frame : List ℕ)

@@ -100,6 +100,8 @@ impl Machine {
                     self.receive(d, n, frame)
                 }
             }
+            Output::HangUp(_) => Ok(()),
+            Output::Notice(_) => Ok(()),
             Output::Shutdown => Ok(()),
         }
     }

@@ -17,7 +17,7 @@ use Rattle.daemon_core.specs.Serving.{or_refusal}
 use Rattle.daemon_core.specs.State.{Links, State, is_number, link_at, links_of}
 use Rattle.daemon_core.specs.declared.events.Event.TheVariants.{EditorBegan, Ended, EditorFrame}
 use Rattle.daemon_core.specs.declared.events.Output.{Output}
-use Rattle.daemon_core.specs.declared.events.Output.TheVariants.{Send, Shutdown}
+use Rattle.daemon_core.specs.declared.events.Output.TheVariants.{Send, HangUp, Notice, Shutdown}
 use Rattle.plain_world.specs.Handling.{first_step, verdict_of}
 use Rattle.frame_world.specs.Seats.{Seat}
 use Rattle.frame_world.specs.Tie.{IsTied}
@@ -25,6 +25,8 @@ use Rattle.frame_world.specs.Tie.{IsTied}
 -- the frames that are sent on a connection
 abbrev pub frame_to : ℕ → Output → List (List ℕ)
 frame_to n (Send k frame) = if is_number n k then frame ∷ [] else []
+frame_to n (HangUp k) = []
+frame_to n (Notice notice) = []
 frame_to n Shutdown = []
 
 abbrev pub sent_on : ℕ → List Output → List (List ℕ)

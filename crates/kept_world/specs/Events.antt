@@ -5,7 +5,7 @@ use Rattle.daemon_core.specs.Outputs.{serve}
 use Rattle.daemon_core.specs.Sending.{AllCanBeSent}
 use Rattle.daemon_core.specs.declared.events.Event.{Event}
 use Rattle.daemon_core.specs.declared.events.Output.{Output}
-use Rattle.daemon_core.specs.declared.events.Output.TheVariants.{Send, Shutdown}
+use Rattle.daemon_core.specs.declared.events.Output.TheVariants.{Send, HangUp, Notice, Shutdown}
 use Rattle.frame_world.specs.Serving.{received}
 use Rattle.plain_world.specs.Lines.{told_line}
 use Rattle.plain_world.specs.declared.TheConstants.{FIRST_OWN}
@@ -28,6 +28,8 @@ told_editor d sent x = if x.daemon == d then received_on x.connection sent x els
 -- a frame that is sent on a connection that the script feeds is printed
 abbrev pub fed_line : ℕ → Output → List ℕ
 fed_line d (Send n frame) = if nat_lt n FIRST_OWN then told_line d (Send n frame) else []
+fed_line d (HangUp n) = []
+fed_line d (Notice notice) = []
 fed_line d Shutdown = []
 
 abbrev pub fed_lines : ℕ → List Output → List ℕ
@@ -36,6 +38,8 @@ fed_lines d sent = flat_map (fed_line d) sent
 -- the daemon is to stop
 abbrev pub is_stop : Output → Bool
 is_stop (Send n frame) = false
+is_stop (HangUp n) = false
+is_stop (Notice notice) = false
 is_stop Shutdown = true
 
 abbrev pub stops_if : Bool → ℕ → KeptHost → KeptWorld → KeptWorld

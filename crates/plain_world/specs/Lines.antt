@@ -8,7 +8,7 @@ use Rattle.replay_script.specs.Texts.{quoted}
 use Rattle.rpc_message.specs.Codes.{code}
 use Rattle.rpc_message.specs.declared.refusals.Refusal.TheVariants as refusal
 use Rattle.daemon_core.specs.declared.events.Output.{Output}
-use Rattle.daemon_core.specs.declared.events.Output.TheVariants.{Send, Shutdown}
+use Rattle.daemon_core.specs.declared.events.Output.TheVariants.{Send, HangUp, Notice, Shutdown}
 use Rattle.plain_world.specs.World.{Seat, is_connected}
 
 -- whether something is under way between an editor and its daemon
@@ -59,10 +59,12 @@ abbrev pub first_line : ℕ → List Mark → List ℕ
 first_line e [] = []
 first_line e (m ∷ wire) = kind_line e m.kind
 
--- a frame that a daemon sends on a connection that the script feeds
+-- a frame that a daemon sends on a connection that the script feeds; of nothing else that it asks for is a line told
 abbrev pub told_line : ℕ → Output → List ℕ
 told_line d (Send number frame) =
     codes "told " ++ decimal d ++ codes " " ++ decimal number ++ codes " " ++ encode_lower frame ++ codes "\n"
+told_line d (HangUp number) = []
+told_line d (Notice notice) = []
 told_line d Shutdown = []
 
 abbrev pub told_lines : ℕ → List Output → List ℕ

@@ -67,6 +67,10 @@ module _ (history : History) (directory : DirectoryView) (texts : TextsView) (re
   pub view_none : None ≡ winner_in directory path → None ≡ view_at history path
   view_none is = ap (option_map (λ object. text_of (elements_in (kept_at texts object)))) is ∙ sym view_is
 
+  -- where an object is read there is a file
+  pub has_file : (v : ElemId) → Some v ≡ winner_in directory path → view_at history path ≡ None → ⊥
+  has_file v is absent = let never : Some (text_of (elements_in (kept_at texts v))) ≡ None = view_some v is ∙ absent in cc
+
 -- the paths of the directory are those of the history
 pub paths_told : {E : Type 0} (history : History) (directory : DirectoryView) (texts : TextsView) → AreReadings history directory texts
     → (r : Result (List (List ℕ)) E) → IfOk r (λ list. (at : List ℕ) → IsTrue (has_path list at) ↔ ((q : ElemId) × IsTrue (is_made directory at q)))

@@ -1,4 +1,4 @@
-ghost use Rattle.std.specs.Prelude.{◌≡◌, ◌≢◌, ◌↔◌, ◌<◌, ◌^◌, true, false, not, length, IsTrue, IfOk, IfErr, OnOk};
+ghost use Rattle.std.specs.Prelude.{◌≡◌, ◌≢◌, ◌↔◌, ◌<◌, ◌^◌, true, false, not, length, None, Ok, IsTrue, IfOk, IfErr, OnOk};
 ghost use Rattle.std.specs.Option.{option_map};
 ghost use Rattle.delta.specs.Cells.{base_length};
 ghost use Rattle.change_codec.specs.Change.{Change};
@@ -146,7 +146,9 @@ impl Replica {
     /// The text at a path, and `None` where there is no file.
     pub fn view(&self, alloc: Global, path: &SharedPath) -> Result<Option<Text>, AllocError>
         requires { IsTrue self.now.live }
-        ensures { IfOk result (λ text. text ≡ view_at self.now.history path.now) }
+        ensures text { IfOk result (λ text. text ≡ view_at self.now.history path.now) }
+        // Where there is no file no memory is asked for.
+        ensures absent { view_at self.now.history path.now ≡ None → result ≡ Ok None }
     {
         match winner(&self.directory, path) {
             Some(object) => {

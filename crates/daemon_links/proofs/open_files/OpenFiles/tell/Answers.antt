@@ -1,4 +1,5 @@
 use Rattle.std.proofs.Common.{ap, ◌∙◌, ◌++◌, List}
+use Rattle.delta.specs.Cells.{base_length}
 use Rattle.editor_bridge.specs.Link.{with_pushed}
 use Rattle.editor_bridge.specs.declared.frames.BridgeFrame.{BridgeFrame}
 use Rattle.file_uri.specs.UriOf.{uri_of}
@@ -7,7 +8,7 @@ use Rattle.text_position.specs.Changes.{edits_of}
 use Rattle.daemon_core.specs.Outputs.{send}
 use Rattle.daemon_core.specs.declared.events.Output.{Output}
 use Rattle.daemon_links.specs.Changing.{effect_of}
-use Rattle.daemon_links.proofs.TellLemmas.{none_told, one_told, may_push, edit_sent, one_read, untold_read}
+use Rattle.daemon_links.proofs.TellLemmas.{none_told, one_told, may_push, may_fit, edit_sent, one_read, untold_read}
 use Rattle.daemon_links.proofs.open_files.OpenFiles.tell.Goals as goal
 
 pub returns-in_default-clause-links : goal.returns-in_default-clause-links
@@ -18,6 +19,12 @@ returns-in_default-clause-links c =
 pub push-requires-clause-room : goal.push-requires-clause-room
 push-requires-clause-room c =
     may_push c.args.text.now c.args.change.now.path c.self.inside.links.entries c.args.self.now c.in-Some.link.now c.requires.told c.self.view_is c.in-Some.ensures.value
+
+pub push-requires-clause-fits : goal.push-requires-clause-fits
+push-requires-clause-fits c =
+    ap base_length c.in_ok-copied.ensures
+    ∙ may_fit c.args.text.now c.args.change.now.path c.args.change.now.delta c.self.inside.links.entries c.args.self.now c.in-Some.link.now
+    c.requires.told c.self.view_is c.in-Some.ensures.value c.requires.fits
 
 pub returns-clause-links : goal.returns-clause-links
 returns-clause-links c =

@@ -1,0 +1,3 @@
+pub mod WantedLemmas
+pub mod HandLemmas
+mod SameLemmas

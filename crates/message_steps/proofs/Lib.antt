@@ -1,0 +1,5 @@
+pub mod StepLemmas
+pub mod LinkLemmas
+pub mod OpenLemmas
+pub mod EditLemmas
+pub mod ClashLemmas
