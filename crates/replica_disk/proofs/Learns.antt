@@ -9,7 +9,7 @@ use Rattle.journal_format.specs.declared.records.Record.{Record}
 use Rattle.replica_store.specs.Store.{StoreView, IsStore}
 use Rattle.replica_store.specs.Calls.{with_staged, IsNotAdded}
 use Rattle.replica_store.proofs.RecordLemmas.{store_staged}
-use Rattle.replica_disk.specs.Learning.{IsLearnt, goes_on, HoldsTheSame, HoldsOneMore, HoldsMore, HoldsNoMore}
+use Rattle.replica_disk.specs.Learning.{IsLearnt, goes_on, HoldsTheSame, HoldsMore, HoldsNoMore}
 use Rattle.replica_disk.specs.declared.learning.Learnt.{Learnt}
 use Rattle.replica_disk.specs.declared.learning.Learnt.TheVariants as learnt
 

@@ -1,22 +1,23 @@
 -- What an opening of a store comes to, from that of its journal.
-use Rattle.std.proofs.Common.{◌≡◌, ◌≢◌, ◌≤◌, ℕ, List, [], ◌∷◌, ◌++◌, true, Ok, Err, IsTrue, refl, sym, ap, ◌∙◌, subst, inl, inr}
+use Rattle.std.proofs.Common.{◌≡◌, ◌≢◌, ◌≤◌, ℕ, List, [], ◌∷◌, ◌++◌, true, Result, Ok, Err, IsTrue, refl, sym, ap, ◌∙◌, subst, inl, inr}
+use Rattle.std.specs.Prelude.{OnOk}
 use Rattle.std.specs.List.{AllByRecursion}
 use Rattle.std.proofs.lemmas.List.{append-nil}
 use Rattle.tt_base.specs.declared.ids.Actor.{Actor}
 use Rattle.outside.specs.DiskMeaning.{DiskMeaning}
 use Rattle.outside.specs.Faults.{Rose}
 use Rattle.outside.specs.Images.{IsImage}
-use Rattle.outside.specs.Moments.{LeavesOnly}
+use Rattle.outside.specs.Moments.{LeavesNow, LeavesOnly}
 use Rattle.outside.proofs.Moments.{then_run}
 use Rattle.journal_format.specs.Encoding.{record_field, HoldsEncoding}
-use Rattle.journal_format.specs.Image.{group_field, actor_is_first, all_records, IsPlaced}
+use Rattle.journal_format.specs.Image.{group_field, actor_is_first, all_records, StandsFor, IsPlaced}
 use Rattle.journal_format.specs.declared.records.Record.{Record}
 use Rattle.journal_format.specs.declared.records.Record.TheVariants as records
 use Rattle.change_journal.specs.Held.{JournalView}
 use Rattle.change_journal.specs.Faults.{journal_fault_for}
 use Rattle.change_journal.specs.Journal.{IsBeforeOrAfter, AppendsSo}
 use Rattle.change_journal.specs.Opening.{opened, open_steps, FailsToOpen, FailsSo}
-use Rattle.change_journal.specs.Steps.{Step, MadeAll, MadeUntil}
+use Rattle.change_journal.specs.Steps.{Step, MadeAll}
 use Rattle.change_journal.specs.declared.faults.AppendFault.{AppendFault}
 use Rattle.change_journal.specs.declared.faults.AppendFault.TheVariants as append_faults
 use Rattle.change_journal.specs.declared.faults.JournalFault.{JournalFault}
@@ -74,6 +75,14 @@ begun_is given (r ∷ rs) = append-nil (r ∷ rs)
 -- with the daemon's record, where it was wanted, the journal is begun
 pub begins : {D : Type 0} (old new : JournalView D) (given : Actor) → IsWritten old new (first_records given old.records) → new.records ≡ begun given old.records
 begins old new given written = written_records old new (first_records given old.records) written ∙ begun_is given old.records
+
+-- what is left of a journal stands for the records that it has now, those that were written among them
+pub begin_leaves : {D E : Type 0} (disk : DiskMeaning) (old new : JournalView D) (added : List Record) (answer : Result (Unit {0}) E)
+    → OnOk answer (IsWritten old new added) → OnOk answer (LeavesNow disk (λ image. StandsFor image (old.records ++ added)))
+    → OnOk answer (LeavesNow disk (λ image. StandsFor image new.records))
+begin_leaves disk old new added (Ok done) written leaves =
+    subst (λ (rs : List Record). LeavesNow disk (λ image. StandsFor image rs)) (sym (written_records old new added written)) leaves
+begin_leaves disk old new added (Err fault) written leaves = tt
 
 -- ---- an opening that fails at the daemon's record
 

@@ -1,8 +1,5 @@
 -- What a call makes of the parts of a store.
-use Rattle.std.proofs.Common.{◌≡◌, ℕ, Bool, true, false, List, [], ◌++◌, IsTrue, sym, ap, ◌∙◌, subst}
-use Rattle.std.specs.BTreeMap.{insert_entry}
-use Rattle.std.specs.Cmp.Lexicographic.{slice_cmp}
-use Rattle.std.specs.Ordering.{nat_cmp}
+use Rattle.std.proofs.Common.{◌≡◌, ℕ, Bool, true, false, List, [], IsTrue, sym, ap, ◌∙◌, subst}
 use Rattle.change_journal.specs.Held.{JournalView}
 use Rattle.journal_format.specs.declared.records.Note.{Note}
 use Rattle.journal_format.specs.declared.records.Record.{Record}

@@ -1,5 +1,5 @@
 //! What is staged goes to the disk.
-ghost use Rattle.std.specs.Prelude.{◌≡◌, ◌≤◌, ◌++◌, IsTrue, OnOk, IsErrOf};
+ghost use Rattle.std.specs.Prelude.{◌≡◌, ◌≤◌, ◌++◌, [], Ok, IsTrue, OnOk, IsErrOf};
 ghost use Rattle.std.specs.List.{AllByRecursion};
 ghost use Rattle.outside.specs.Faults.{Rose};
 ghost use Rattle.outside.specs.Moments.{LeavesNow, LeavesOnly};
@@ -23,6 +23,8 @@ pub(crate) fn append_staged<D: Disk>(
     requires encodings { AllByRecursion HoldsEncoding staged.now }
     requires actor { IsTrue (actor_is_first (journal.old.records ++ staged.now)) }
     ensures written { OnOk result (IsWritten journal.old journal.new staged.now) }
+    // Where nothing is staged no memory is asked for, and the disk is not touched.
+    ensures nothing { staged.now ≡ [] → result ≡ Ok tt }
     ensures moments { LeavesOnly (D.meaning journal.old.disk) (D.meaning journal.new.disk) (IsBeforeOrAfter journal.old.records staged.now) }
     ensures durable { OnOk result (LeavesNow (D.meaning journal.new.disk) (λ image. StandsFor image (journal.old.records ++ staged.now))) }
     ensures steps { (D.meaning journal.old.disk).told

@@ -1,5 +1,5 @@
 //! A change that a daemon makes is held, and its record staged.
-ghost use Rattle.std.specs.Prelude.{◌≡◌, IsTrue, IfOk, IfErr, OnOk, MatchOption, length};
+ghost use Rattle.std.specs.Prelude.{◌≡◌, ℕ, Err, IsTrue, IfOk, IfErr, OnOk, MatchOption, length};
 ghost use Rattle.delta.specs.Cells.{base_length};
 ghost use Rattle.replica_store.specs.Calls.{IsTooLong};
 ghost use Rattle.replica_views.specs.Made.{made, removed};
@@ -95,6 +95,8 @@ pub(crate) fn hold_made(
     ensures made { IfOk result (HoldsOwn replica.old.history staged.old (made replica.old.history actor path.now d.now)
         replica.new.history staged.new) }
     ensures short { OnOk result (HasNoneTooLong replica.old.history path.now d.now) }
+    // The length is judged before any memory is asked for.
+    ensures long { (count : ℕ) → IsTooLong replica.old.history path.now d.now count → result ≡ Err (StoreFault.TextTooLong count) }
     ensures fault { IfErr result (IsNoMaking replica.old.history actor path.now d.now) }
     ensures same { IfErr result (HoldsStill replica.old.history staged.old replica.new.history staged.new) }
     ensures live { IsTrue (is_of_use result) → IsTrue replica.new.live }

@@ -1,7 +1,8 @@
 //! Opens the journal of a disk, and takes its records.
 ghost use Rattle.std.specs.Prelude.{◌≡◌, ◌≤◌, IsTrue, OnOk, IfOk, IfErr, IsErrOf};
 ghost use Rattle.outside.specs.Faults.{Rose};
-ghost use Rattle.outside.specs.Moments.{LeavesOnly};
+ghost use Rattle.outside.specs.Moments.{LeavesNow, LeavesOnly};
+ghost use Rattle.journal_format.specs.Image.{StandsFor};
 ghost use Rattle.change_journal.specs.Journal.{IsBeforeOrAfter, AppendsSo};
 ghost use Rattle.replica_store.specs.Calls.{IsWritten};
 ghost use Rattle.replica_store.specs.Disk.{commit_steps, first_records};
@@ -73,6 +74,7 @@ pub(crate) fn begin<D: Disk>(
     ensures written { OnOk result (IsWritten journal.old journal.new (first_records given journal.old.records)) }
     ensures moments { LeavesOnly (D.meaning journal.old.disk) (D.meaning journal.new.disk)
         (IsBeforeOrAfter journal.old.records (first_records given journal.old.records)) }
+    ensures durable { OnOk result (LeavesNow (D.meaning journal.new.disk) (λ image. StandsFor image journal.new.records)) }
     ensures steps { (D.meaning journal.old.disk).told → AppendsSo (commit_steps journal.old.end (first_records given journal.old.records))
         (D.meaning journal.old.disk) (D.meaning journal.new.disk) result }
     ensures plan { (D.meaning journal.new.disk).plan ≡ (D.meaning journal.old.disk).plan }

@@ -1,10 +1,10 @@
 //! A store as a value over its disk.
-ghost use Rattle.std.specs.Prelude.{◌≡◌, ◌≢◌, ◌≤◌, [], false, IsTrue, OnOk, OnErr, IfOk, IfErr, IsErrOf, MatchResult};
+ghost use Rattle.std.specs.Prelude.{◌≡◌, ◌≢◌, ◌≤◌, ℕ, [], false, None, Ok, Err, IsTrue, OnOk, OnErr, IfOk, IfErr, IsErrOf, MatchResult};
 ghost use Rattle.outside.specs.Faults.{Rose};
 ghost use Rattle.outside.specs.Moments.{LeavesNow, LeavesOnly};
 ghost use Rattle.journal_format.specs.Image.{StandsFor};
 ghost use Rattle.change_journal.specs.Journal.{IsBeforeOrAfter, AppendsSo};
-ghost use Rattle.replica_store.specs.Calls.{IsNoted, IsNotAdded, CanMake, CanRemove, IsMade, IsRemoved, IsShort, IsNotMade, IsNotRemoved, IsCommitted};
+ghost use Rattle.replica_store.specs.Calls.{IsNoted, IsNotAdded, CanMake, CanRemove, IsMade, IsRemoved, IsTooLong, IsShort, IsNotMade, IsNotRemoved, IsCommitted};
 ghost use Rattle.replica_store.specs.Disk.{commit_steps, OpensOn, IsNotOpened, FailsToOpenSo, LeftByOpening};
 ghost use Rattle.replica_store.specs.Records.{note_at};
 ghost use Rattle.replica_store.specs.Store.{IsStore, all_records};
@@ -86,6 +86,8 @@ impl<D: Disk> Store<D> {
         ensures moments { (D.meaning disk).told → (D.meaning disk).seen ≢ [] → MatchResult result
             (λ store. LeavesOnly (D.meaning disk) (D.meaning store.journal.disk) (LeftByOpening (D.meaning disk) actor))
             (λ refusal. LeavesOnly (D.meaning disk) (D.meaning refusal.disk) (LeftByOpening (D.meaning disk) actor)) }
+        // When it has answered, each image stands for its records.
+        ensures durable { IfOk result (λ store. LeavesNow (D.meaning store.journal.disk) (λ image. StandsFor image store.journal.records)) }
         ensures plan { MatchResult result
             (λ store. (D.meaning store.journal.disk).plan ≡ (D.meaning disk).plan)
             (λ refusal. (D.meaning refusal.disk).plan ≡ (D.meaning disk).plan) }
@@ -124,7 +126,12 @@ impl<D: Disk> Store<D> {
     pub fn is_live(&self) -> bool
         ensures live { result ≡ self.now.live }
         ensures store { IsTrue self.now.live → IsStore self.now }
+        // Whatever a crash leaves of a live one stands for its records on the disk.
+        ensures durable { IsTrue self.now.live → LeavesNow (D.meaning self.now.journal.disk) (λ image. StandsFor image self.now.journal.records) }
     {
+        if self.live {
+            let _records = self.journal.records();
+        }
         self.live
     }
 
@@ -145,7 +152,9 @@ impl<D: Disk> Store<D> {
     /// The text at a path, and `None` where there is no file.
     pub fn view(&self, alloc: Global, path: &SharedPath) -> Result<Option<Text>, AllocError>
         requires live { IsTrue self.now.live }
-        ensures { IfOk result (λ text. text ≡ view_at self.now.history path.now) }
+        ensures text { IfOk result (λ text. text ≡ view_at self.now.history path.now) }
+        // Where there is no file no memory is asked for.
+        ensures absent { view_at self.now.history path.now ≡ None → result ≡ Ok None }
     {
         self.replica.view(alloc, path)
     }
@@ -169,6 +178,9 @@ impl<D: Disk> Store<D> {
     pub fn note(&mut self, alloc: Global, path: &SharedPath, note: Note) -> Result<(), AllocError>
         requires live { IsTrue self.old.live }
         ensures ok { OnOk result (IsNoted self.old path.now note self.new) }
+        // The note that is kept already is no news, and no memory is asked for.
+        ensures kept { note_at self.old.notes path.now ≡ note → (result ≡ Ok tt) × (self.new ≡ self.old) }
+        ensures rests { self.new.journal ≡ self.old.journal }
         ensures spent { OnErr result (self.new.live ≡ false) }
     {
         if is_kept(&self.notes, path, &note) {
@@ -185,6 +197,7 @@ impl<D: Disk> Store<D> {
         requires live { IsTrue self.old.live }
         ensures learnt { IfOk result (IsLearnt self.old change self.new) }
         ensures fault { IfErr result (IsNotAdded self.old change self.new) }
+        ensures rests { self.new.journal ≡ self.old.journal }
     {
         self.live = false;
         let answer = hold(alloc, &mut self.replica, &mut self.staged, change);
@@ -204,7 +217,10 @@ impl<D: Disk> Store<D> {
         // The delta is its one effect.
         ensures effects { IfOk result (λ making. making.effects ≡ only_effect path.now d.now) }
         ensures short { OnOk result (IsShort self.old path.now d.now) }
+        // The length is judged before any memory is asked for.
+        ensures long { (count : ℕ) → IsTooLong self.old.history path.now d.now count → result ≡ Err (StoreFault.TextTooLong count) }
         ensures fault { IfErr result (IsNotMade self.old path.now d.now self.new) }
+        ensures rests { self.new.journal ≡ self.old.journal }
     {
         d.normal_form();
         self.live = false;
@@ -228,6 +244,7 @@ impl<D: Disk> Store<D> {
         requires file { CanRemove self.old path.now }
         ensures removed { IfOk result (IsRemoved self.old path.now self.new) }
         ensures fault { IfErr result (IsNotRemoved self.old path.now self.new) }
+        ensures rests { self.new.journal ≡ self.old.journal }
     {
         self.live = false;
         let answer = hold_removed(alloc, &mut self.replica, &mut self.staged, self.actor, path);
@@ -242,6 +259,8 @@ impl<D: Disk> Store<D> {
     pub fn commit(&mut self, alloc: Global) -> Result<(), AppendFault>
         requires live { IsTrue self.old.live }
         ensures ok { OnOk result (IsCommitted self.old self.new) }
+        // Where nothing is staged no memory is asked for, and the disk is not touched.
+        ensures nothing { self.old.staged ≡ [] → result ≡ Ok tt }
         ensures spent { OnErr result (self.new.live ≡ false) }
         // At each moment each image stands for the records from before, and for none or all of the staged ones.
         ensures moments { LeavesOnly (D.meaning self.old.journal.disk) (D.meaning self.new.journal.disk)
@@ -260,6 +279,13 @@ impl<D: Disk> Store<D> {
         self.staged = List::from_vec(Vec::new(alloc));
         self.live = true;
         Ok(())
+    }
+
+    /// The disk, to be looked at.
+    pub fn disk(&self) -> &D
+        ensures disk { result.now ≡ self.now.journal.disk }
+    {
+        self.journal.disk()
     }
 
     /// The disk.

@@ -1,0 +1,6 @@
+mod ConnectedLemmas
+mod FetchLemmas
+mod CarryLemmas
+mod ServeLemmas
+mod DiskLemmas
+mod RunningLemmas
